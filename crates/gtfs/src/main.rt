@@ -1,6 +1,7 @@
-//! The program `gtfs`: the library `gtfs_cli` over the words of the command line, the disk, the standard output
-//! and the error output. Two things it reports itself: what keeps it from calling that library, as words that are
-//! not UTF-8 or a system without random bytes, and a buffer of the standard output that could not be flushed.
+//! The program `gtfs`: the library `gtfs_cli` over the words of the command line, the disk, the
+//! standard output and the error output. Two things it reports itself: what keeps it from calling
+//! that library, as words that are not UTF-8 or a system without random bytes, and a buffer of the
+//! standard output that could not be flushed.
 #![tactic(auto)]
 
 ghost use Rattle.std.specs.Prelude.{◌≢◌, ◌≤◌, IfOk, IfErr};
@@ -35,8 +36,8 @@ fn main(rt: HostRuntime) -> ExitCode {
     ExitCode::from(status)
 }
 
-// Answers the words of the command line, and gives the status. The error output is told nothing but by the library that
-// answers them.
+// Answers the words of the command line, and gives the status. The error output is told nothing but
+// by the library that answers them.
 fn answer<R: Runtime + Env + RandomSource + AllocGlobal, E: Out>(
     rt: &R,
     err: &mut E,

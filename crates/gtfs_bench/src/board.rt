@@ -47,8 +47,8 @@ impl Out for Sink {
     }
 }
 
-/// Prints, of the stop that most stop times name, the time to take all departures from its board, and to write all lines
-/// of it; and that of a bare loop of `csv` over the feed.
+/// Prints, of the stop that most stop times name, the time to take all departures from its board,
+/// and to write all lines of it; and that of a bare loop of `csv` over the feed.
 pub fn measure<R: Files + Alloc + AllocGlobal + Clone + Drop + Clock + Print + RandomSource>(
     rt: &R,
     dir: &str,

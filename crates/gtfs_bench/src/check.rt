@@ -14,7 +14,8 @@ struct Measured {
     problems: usize,
 }
 
-/// Prints the time of a bare loop of `csv` over the bytes of a feed, and that of [`check`] over its tables.
+/// Prints the time of a bare loop of `csv` over the bytes of a feed,
+/// and that of [`check`] over its tables.
 pub fn measure<R: Files + AllocGlobal + Clock + Print>(rt: &R, dir: &str) -> Result<()> {
     let mut least = Measured {
         bare: Duration::MAX,
@@ -49,7 +50,8 @@ fn time_check<R: AllocGlobal + Clock>(rt: &R, tables: &Tables, least: &mut Measu
     Ok(())
 }
 
-/// Prints the memory of this process before the tables of a feed are read from the disk and after they were checked.
+/// Prints the memory of this process before the tables of a feed are read from the
+/// disk and after they were checked.
 pub fn measure_memory<R: Files + Alloc + AllocGlobal + Clone + Drop + Print>(
     rt: &R,
     dir: &str,

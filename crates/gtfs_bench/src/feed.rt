@@ -21,8 +21,9 @@ struct Measured {
     count: usize,
 }
 
-/// Prints the time of a bare loop of `csv` over the bytes of a feed, that of [`Feed::new`] over its tables when they are
-/// checked, and that of [`StopLanes::build`] at the stop that most stop times name.
+/// Prints the time of a bare loop of `csv` over the bytes of a feed, that of
+/// [`Feed::new`] over its tables when they are checked, and that of [`StopLanes::build`]
+/// at the stop that most stop times name.
 pub fn measure<R: Files + AllocGlobal + Clock + Print + RandomSource>(
     rt: &R,
     dir: &str,
@@ -119,7 +120,8 @@ pub fn busiest(alloc: Global, feed: &Feed) -> Result<StopNo> {
     Ok(StopNo(best))
 }
 
-/// Prints the memory of this process before the tables of a feed are read from the disk, and while the feed alone is kept.
+/// Prints the memory of this process before the tables of a feed are read from the disk,
+/// and while the feed alone is kept.
 pub fn measure_memory<R: Files + Alloc + AllocGlobal + Clone + Drop + Clock + Print + RandomSource>(
     rt: &R,
     dir: &str,

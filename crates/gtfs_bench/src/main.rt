@@ -1,4 +1,5 @@
-//! Measures the crates of this repository over a feed on disk. `bench/run` runs it, and reads what it prints.
+//! Measures the crates of this repository over a feed on disk.
+//! `bench/run` runs it, and reads what it prints.
 #![tactic(auto)]
 
 mod board;

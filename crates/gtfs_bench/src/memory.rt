@@ -4,8 +4,8 @@ use gtfs_table::{DiskFolders, Tables};
 use std::fs;
 use std::rt::Files;
 
-/// Prints the memory of this process (VmRSS) and its peak (VmHWM), before the tables of a feed are read
-/// from the disk and while they are kept.
+/// Prints the memory of this process (VmRSS) and its peak (VmHWM), before the tables of a feed are
+/// read from the disk and while they are kept.
 pub fn measure<R: Files + Alloc + AllocGlobal + Clone + Drop + Print>(
     rt: &R,
     dir: &str,

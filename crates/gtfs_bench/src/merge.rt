@@ -28,8 +28,8 @@ struct Measured {
     bytes: usize,
 }
 
-/// Prints the time of bare loops of `csv` over two feeds, and those of reading and checking both, of merging them, and of
-/// making the text of each file.
+/// Prints the time of bare loops of `csv` over two feeds, and those of reading and checking both,
+/// of merging them, and of making the text of each file.
 pub fn measure<R: Files + Alloc + AllocGlobal + Clone + Drop + Clock + Print + RandomSource>(
     rt: &R,
     dir: &str,
@@ -108,8 +108,8 @@ fn length(alloc: Global, feed: &Feed) -> Result<usize> {
     Ok(bytes)
 }
 
-/// Prints the memory of this process before two feeds are read from the disk, and after they were merged and the text
-/// of each file was made.
+/// Prints the memory of this process before two feeds are read from the disk, and after they were
+/// merged and the text of each file was made.
 pub fn measure_memory<R: Files + Alloc + AllocGlobal + Clone + Drop + Clock + Print + RandomSource>(
     rt: &R,
     dir: &str,

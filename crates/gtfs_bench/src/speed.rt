@@ -18,7 +18,8 @@ struct Times {
     read: Duration,
 }
 
-/// Prints the time of a bare loop of `csv` over the bytes of a feed, and that of [`Tables::read`] over the same.
+/// Prints the time of a bare loop of `csv` over the bytes of a feed,
+/// and that of [`Tables::read`] over the same.
 pub fn measure<R: Files + AllocGlobal + Clock + Print>(rt: &R, dir: &str) -> Result<()> {
     let mut least = Times {
         bare: Duration::MAX,
@@ -79,7 +80,8 @@ fn read_over<R: AllocGlobal + Clock>(
     Ok((Count::of_tables(&tables), taken))
 }
 
-/// The tables of a feed whose files are in memory before, and the time of a bare loop over these where that is less.
+/// The tables of a feed whose files are in memory before,
+/// and the time of a bare loop over these where that is less.
 pub fn read_timed<R: Files + AllocGlobal + Clock>(
     rt: &R,
     dir: &str,

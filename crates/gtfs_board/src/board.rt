@@ -55,10 +55,11 @@ impl From<OutOfMemory> for BoardFault {
     }
 }
 
-/// The departures of a stop in order: those of its place, from one instant until another, on each service day.
+/// The departures of a stop in order:
+/// those of its place, from one instant until another, on each service day.
 ///
-/// Each departure is taken away as it is told. What waits in memory does not grow with the span: a service day is
-/// looked at only once it can hold a departure before all those that wait.
+/// Each departure is taken away as it is told. What waits in memory does not grow with the span: a
+/// service day is looked at only once it can hold a departure before all those that wait.
 #[derive(Drop)]
 pub struct Board<'a> {
     feed: &'a Feed,
@@ -66,7 +67,8 @@ pub struct Board<'a> {
     departures: Merge<Days<'a>>,
 }
 
-// A board is small itself: beside what it is lent it has the lanes and the queue, and no other collection.
+// A board is small itself:
+// beside what it is lent it has the lanes and the queue, and no other collection.
 const _: () = prove!(size_of::<Board<'static>>() == 296);
 
 const _: () = prove!(size_of::<Merge<Days<'static>>>() == 280);
@@ -85,16 +87,18 @@ impl<'a> Model for Board<'a> {
 }
 
 impl<'a> Board<'a> {
-    /// The board of a stop over a span, or of what lies above a key there. The key need not be that of a departure.
+    /// The board of a stop over a span, or of what lies above a key there.
+    /// The key need not be that of a departure.
     ///
-    /// The departures of a station are also those of its stops and platforms. A run that starts on one service day may
-    /// depart on the next, and is listed by its instant (GTFS Schedule Reference, `stop_times.txt`). A stop time without a
-    /// time has no departure under [`Times::Given`]; under [`Times::Interpolated`] it has one at the time of an even pace, and
-    /// the mark of its line says so.
+    /// The departures of a station are also those of its stops and platforms. A run that starts
+    /// on one service day may depart on the next, and is listed by its instant (GTFS Schedule
+    /// Reference, `stop_times.txt`). A stop time without a time has no departure under
+    /// [`Times::Given`]; under [`Times::Interpolated`] it has one at the time of an even pace,
+    /// and the mark of its line says so.
     ///
     /// # Errors
-    /// `UnknownStop` where the feed has no stop of this id. Else `BadSpan` where the span is not valid, as
-    /// [`Span::is_valid`] says. `OutOfMemory` where memory is refused.
+    /// `UnknownStop` where the feed has no stop of this id. Else `BadSpan` where the span is not
+    /// valid, as [`Span::is_valid`] says. `OutOfMemory` where memory is refused.
     pub fn open(
         alloc: Global,
         feed: &'a Feed,
@@ -124,8 +128,9 @@ impl<'a> Board<'a> {
         }
     }
 
-    /// The same board, made of an index in place of its feed and its times: with every clause of [`Board::open`]. It costs
-    /// nothing for trips that do not call at the place of the stop, as [`StopLanes::from_index`] says.
+    /// The same board, made of an index in place of its feed and its times: with every clause of
+    /// [`Board::open`]. It costs nothing for trips that do not call at the place of the stop, as
+    /// [`StopLanes::from_index`] says.
     ///
     /// # Errors
     /// Those of [`Board::open`].
@@ -302,8 +307,8 @@ impl<'a> Board<'a> {
         }
     }
 
-    /// How many departures wait in memory: at most as many as the stop has lanes, times the number of days in a row that
-    /// can hold departures at one instant.
+    /// How many departures wait in memory: at most as many as the stop has lanes, times the number
+    /// of days in a row that can hold departures at one instant.
     pub fn held(&self) -> usize
         ensures { result ≡ length self.now.queue }
     {

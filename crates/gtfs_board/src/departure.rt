@@ -9,17 +9,19 @@ use crate::key::Key;
 pub enum Mark {
     /// `s`: the run keeps a timetable.
     Scheduled,
-    /// `f`: the run is one of a row of frequencies.txt whose `exact_times` is 0, so its times are not exact.
+    /// `f`: the run is one of a row of frequencies.txt whose `exact_times` is 0,
+    /// so its times are not exact.
     Frequency,
-    /// `si`: as `s`, and the stop time has neither an arrival nor a departure of its own, so its time is one of an even
-    /// pace.
+    /// `si`: as `s`, and the stop time has neither an arrival nor a departure of its own,
+    /// so its time is one of an even pace.
     ScheduledFilled,
     /// `fi`: as `f`, and the stop time has neither.
     FrequencyFilled,
 }
 
 impl Mark {
-    // The mark of a run, whose times are exact or not, at a stop time, which has no time of its own or one.
+    // The mark of a run, whose times are exact or not, at a stop time,
+    // which has no time of its own or one.
     pub(crate) fn new(is_inexact: bool, is_untimed: bool) -> Mark
         ensures { result ≡ mark_if is_inexact is_untimed }
     {

@@ -16,8 +16,8 @@ use crate::key::Key;
 use crate::merge::Candidate;
 use gtfs_runs::{Feed, trips_below};
 
-// The floor of a board from an instant on, above a key if there is one. It belongs to none of so many lanes,
-// or to a day before all service days.
+// The floor of a board from an instant on, above a key if there is one. It belongs to none of so
+// many lanes, or to a day before all service days.
 pub(crate) fn floor_of(feed: &Feed, lanes: usize, from: i64, after: Option<&Key<'_>>) -> Candidate
     ensures value { (c : CandidateValue) → IsNumbered feed.now lanes c → candidate_lt result c
         ≡ is_from feed.now from (option_map (λ k. plain_key k.now) after.entry) c }

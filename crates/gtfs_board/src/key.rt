@@ -17,8 +17,8 @@ pub(crate) use writing::{KEY_ROOM, write_key};
 
 /// The key of a departure, by which boards are ordered: no two departures of a feed have the same.
 ///
-/// Keys compare by instant, then by the trip's id byte by byte, then by run, sequence and service day. A board can be
-/// opened after any key, whether or not a departure has it.
+/// Keys compare by instant, then by the trip's id byte by byte, then by run, sequence and service
+/// day. A board can be opened after any key, whether or not a departure has it.
 #[derive(Clone, Copy, Debug, PartialEq, Eq)]
 pub struct Key<'a> {
     /// When the vehicle departs, in seconds since 1970-01-01T00:00:00Z.

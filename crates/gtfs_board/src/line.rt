@@ -14,16 +14,16 @@ use gtfs_days::{Civil, Zone, ZoneClock};
 use gtfs_field::OutOfMemory;
 use std::alloc::Global;
 
-// How many bytes of a line are neither the trip's id nor the text of a column, at most: those of the key, 29 of the
-// clock, five tabs, two of the mark and the line feed.
+// How many bytes of a line are neither the trip's id nor the text of a column, at most: those of
+// the key, 29 of the clock, five tabs, two of the mark and the line feed.
 const LINE_ROOM: usize = KEY_ROOM + 37;
 
-/// Appends the line of a departure: the text of its key, the clock of the zone at its instant, the stop, the route's name,
-/// the headsign and the mark, one tab between two of them, and a line feed.
+/// Appends the line of a departure: the text of its key, the clock of the zone at its instant, the
+/// stop, the route's name, the headsign and the mark, one tab between two of them, and a line feed.
 ///
-/// The clock is `YYYY-MM-DD HH:MM:SS` and how far it is ahead of UTC, `+HH:MM` or `-HH:MM`, with `:SS` where its
-/// seconds are not zero. The instant is one of `jiff`, from -377,705,023,201 to 253,402,207,200, as that of each departure
-/// of a board is.
+/// The clock is `YYYY-MM-DD HH:MM:SS` and how far it is ahead of UTC, `+HH:MM` or `-HH:MM`, with
+/// `:SS` where its seconds are not zero. The instant is one of `jiff`, from -377,705,023,201 to
+/// 253,402,207,200, as that of each departure of a board is.
 ///
 /// # Errors
 /// `OutOfMemory` where the text cannot grow; it is then as it was.

@@ -14,11 +14,12 @@ use listing::Listing;
 use std::alloc::Global;
 use thiserror::Error;
 
-/// Why a page ends early. Each tells how many whole lines went out; a board that is opened after the key of the last of them
-/// goes on with the next.
+/// Why a page ends early. Each tells how many whole lines went out; a board that is opened after
+/// the key of the last of them goes on with the next.
 #[derive(Clone, Copy, Debug, PartialEq, Eq, Error)]
 pub enum PageFault {
-    /// The output failed, and its count of failures rose. After the whole lines a beginning of the next may have gone out.
+    /// The output failed, and its count of failures rose.
+    /// After the whole lines a beginning of the next may have gone out.
     #[error("output failed after {0} lines")]
     Out(u64),
     /// Memory ran out. Nothing but whole lines went out.
@@ -26,14 +27,14 @@ pub enum PageFault {
     OutOfMemory(u64),
 }
 
-/// Writes the lines of the next departures of a board, at most `limit`, and answers how many they were: fewer only where none
-/// is left. What is written is taken from the board, each line before the next departure is looked for, and no page is
-/// gathered in memory.
+/// Writes the lines of the next departures of a board, at most `limit`, and answers how many they
+/// were: fewer only where none is left. What is written is taken from the board, each line before
+/// the next departure is looked for, and no page is gathered in memory.
 ///
 /// # Errors
-/// `Out` where the output failed, and its count of failures rose: of one more line, whose departure is gone too, at most a
-/// beginning went out. `OutOfMemory` where memory ran out: whole lines went out, and at most one departure more is gone. Each
-/// tells how many whole lines went out.
+/// `Out` where the output failed, and its count of failures rose: of one more line, whose departure
+/// is gone too, at most a beginning went out. `OutOfMemory` where memory ran out: whole lines went
+/// out, and at most one departure more is gone. Each tells how many whole lines went out.
 pub fn write_page<O: Out>(
     alloc: Global,
     board: &mut Board<'_>,
@@ -57,8 +58,8 @@ pub fn write_page<O: Out>(
     write_lines(alloc, board, limit, out)
 }
 
-// Writes the lines of the next departures, at most `limit`, and answers how many they were: fewer only where none is left.
-// Each line is sent out before the next departure is taken.
+// Writes the lines of the next departures, at most `limit`, and answers how many they were: fewer
+// only where none is left. Each line is sent out before the next departure is taken.
 //
 // Errors: `Out` where the output failed, `OutOfMemory` where memory ran out.
 pub(crate) fn write_lines<'a, B: Listing<'a>, O: Out>(
@@ -94,8 +95,8 @@ pub(crate) fn write_lines<'a, B: Listing<'a>, O: Out>(
     Ok(lines)
 }
 
-// Writes the line of the next departure, by the clock of the board's zone, in a text that was used before, after so many
-// lines. Answers whether there was one.
+// Writes the line of the next departure, by the clock of the board's zone, in a text that was used
+// before, after so many lines. Answers whether there was one.
 fn write_next<'a, B: Listing<'a>, O: Out>(
     board: &mut B,
     clock: &mut ZoneClock<'_>,

@@ -125,7 +125,8 @@ impl<'a> Days<'a> {
         self.service(lane).active(Day::from_number(day))
     }
 
-    // The first day from this one on on which the service of a lane runs: the one after the last where there is none.
+    // The first day from this one on on which the service of a lane runs:
+    // the one after the last where there is none.
     fn next_active(&self, lane: usize, day: i32) -> i32
         requires lane { lane < length (lanes_of self.now.lanes) }
         requires day { day ≤ℤ (last_service_day +ℤ pos 1) }
@@ -141,7 +142,8 @@ impl<'a> Days<'a> {
         }
     }
 
-    // The first departure of a lane above a floor, on a day with this origin on which the service of the lane runs.
+    // The first departure of a lane above a floor,
+    // on a day with this origin on which the service of the lane runs.
     fn head_on(
         &self,
         lane: usize,

@@ -33,7 +33,8 @@ impl From<OutOfMemory> for TableFault {
     }
 }
 
-/// The runs of a route that pass one list of stops in one direction on a day. The feed lends its texts.
+/// The runs of a route that pass one list of stops in one direction on a day.
+/// The feed lends its texts.
 #[derive(Debug, Drop)]
 pub struct Sheet<'a> {
     /// `route_id` of the route.
@@ -44,10 +45,10 @@ pub struct Sheet<'a> {
     pub day: Day,
     /// `stop_id` of each stop time, by sequence.
     pub stops: List<&'a str>,
-    /// The runs, each the second of the service day at which it starts and the `trip_id` of its trip: by their start, and
-    /// runs of one start by the bytes of the id.
+    /// The runs, each the second of the service day at which it starts and the `trip_id` of its
+    /// trip: by their start, and runs of one start by the bytes of the id.
     pub runs: List<(u32, &'a str)>,
-    /// For each stop the time of each run, None where the stop time has neither an arrival nor a departure and gets no time
-    /// between.
+    /// For each stop the time of each run, None where the stop time has neither an arrival nor a
+    /// departure and gets no time between.
     pub times: List<List<Option<Clock>>>,
 }

@@ -109,8 +109,8 @@ fn is_untimed(row: &StopRow) -> bool
     row.departure_time.get().is_none() && row.arrival_time.get().is_none()
 }
 
-// Whether one of the periods of a trip starts this run and its times are not exact. None begins before the one before it
-// ends, so that only the last one that has begun can start the run.
+// Whether one of the periods of a trip starts this run and its times are not exact. None begins
+// before the one before it ends, so that only the last one that has begun can start the run.
 fn has_inexact(periods: &[Frequency], run: u32) -> bool
     requires moves { All (λ f. 0 < f.headway_secs) periods.now }
     requires apart { ArePeriods periods.now }

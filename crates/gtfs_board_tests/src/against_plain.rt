@@ -9,8 +9,8 @@ use std::alloc::Global;
 use std::process::Abort;
 use std::test::Fail;
 
-// Around the instant at which two of the zones move their clocks, which is 1,325,239,200: all that runs, a day, an
-// hour, and the time before.
+// Around the instant at which two of the zones move their clocks, which is 1,325,239,200: all that
+// runs, a day, an hour, and the time before.
 const SPANS: [Span; 4] = [
     Span {
         from: 1_324_000_000,

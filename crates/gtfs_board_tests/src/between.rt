@@ -4,7 +4,8 @@ use crate::cases::{Case, FIRST_OF_APRIL, ONE_LINE, SMALL};
 use gtfs_board::{Span, Times};
 use gtfs_fixtures::FileText;
 
-/// Two stop times without a time between 08:00:00 and 08:10:01, 601 seconds in three parts: 200 and 400 seconds after the first.
+/// Two stop times without a time between 08:00:00 and 08:10:01, 601 seconds in three parts:
+/// 200 and 400 seconds after the first.
 pub(crate) const GAP: &[FileText] = &[GAP_ROWS];
 
 const GAP_ROWS: FileText = (
@@ -22,7 +23,8 @@ pub(crate) const GAP_OF_A_RUN: &[FileText] = &[
     ),
 ];
 
-/// Two trips of one list of stops: the second leaves the first stop later and the next one earlier, where the first has no time.
+/// Two trips of one list of stops:
+/// the second leaves the first stop later and the next one earlier, where the first has no time.
 pub(crate) const CROSSING: &[FileText] = &[
     (
         "trips.txt",
@@ -36,7 +38,8 @@ T2,08:10:00,08:10:00,S2,1\nT2,08:12:00,08:12:00,S1,2\nT2,08:20:00,08:20:00,S3,3\
     ),
 ];
 
-/// A trip from 08:00:00, where it takes no riders, to 08:09:00, with two stop times between, of which one takes riders.
+/// A trip from 08:00:00, where it takes no riders, to 08:09:00, with two stop times between,
+/// of which one takes riders.
 pub(crate) const WITHOUT_PICK_UP: &[FileText] = &[(
     "stop_times.txt",
     "trip_id,arrival_time,departure_time,stop_id,stop_sequence,pickup_type\n\
@@ -49,7 +52,8 @@ const FARTHEST_ROWS: FileText = (
 T1,00:00:00,00:00:00,S2,1\nT1,,,S1,2\nT1,999:59:59,999:59:59,S2,3\n",
 );
 
-/// A trip from the first time that there is to the last one, with one run at the last second at which one may start.
+/// A trip from the first time that there is to the last one,
+/// with one run at the last second at which one may start.
 pub(crate) const FARTHEST_OF_A_RUN: &[FileText] = &[
     FARTHEST_ROWS,
     (

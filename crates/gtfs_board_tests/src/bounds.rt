@@ -51,13 +51,15 @@ impl Bounds {
         })
     }
 
-    /// How many departures may wait: as many as there are lanes, times the days in a row that can hold one instant.
+    /// How many departures may wait:
+    /// as many as there are lanes, times the days in a row that can hold one instant.
     pub(crate) fn most_held(&self) -> u64 {
         let width = (u64::from(self.greatest) + 187_198) / 86_400 + 1;
         self.lanes.saturating_mul(width)
     }
 
-    /// How many steps may have been made where the next departure is at this instant, and so many were taken.
+    /// How many steps may have been made where the next departure is at this instant,
+    /// and so many were taken.
     pub(crate) fn most_steps(&self, taken: u64, next: i64) -> u64 {
         taken.saturating_add(self.lanes.saturating_mul(self.reach(next)))
     }
@@ -68,8 +70,8 @@ impl Bounds {
         assert_holds(rt, held <= self.most_held(), format_args!("{held} wait"));
     }
 
-    /// So many steps may have been made before the departure at an instant, after so many were taken, and each of these cost
-    /// one.
+    /// So many steps may have been made before the departure at an instant, after so many were
+    /// taken, and each of these cost one.
     pub(crate) fn assert_steps(&self, rt: &impl Abort, steps: u64, taken: u64, next: i64) {
         let what = format_args!("{steps} steps for {taken} departures");
         assert_holds(rt, taken <= steps, what);
@@ -77,8 +79,9 @@ impl Bounds {
         assert_holds(rt, steps <= most, format_args!("{steps} steps"));
     }
 
-    // How many service days can hold an event from the start until an instant: those whose midnight in UTC lies at most
-    // the latest second and the farthest origin before the start, and at most the farthest origin after the instant.
+    // How many service days can hold an event from the start until an instant: those whose midnight
+    // in UTC lies at most the latest second and the farthest origin before the start, and at most
+    // the farthest origin after the instant.
     fn reach(&self, instant: i64) -> u64 {
         let earliest = self.start.saturating_sub(i64::from(self.greatest));
         let low = earliest.saturating_sub(FARTHEST).saturating_add(DAY - 1);

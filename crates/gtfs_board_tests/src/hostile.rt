@@ -128,7 +128,8 @@ fn a_million_departures_are_taken_and_few_wait(rt: HostRuntime) -> Result<(), Fa
     assert_text(&rt, key, "@-2207988801/T1/49599/1/19000112", "the last key")
 }
 
-// A lane of each kind. The first day has 86,401 departures, and on the second one other departure is before the last.
+// A lane of each kind.
+// The first day has 86,401 departures, and on the second one other departure is before the last.
 #[test]
 fn few_wait_where_a_trip_stands_beside_runs(rt: HostRuntime) -> Result<(), Fail> {
     let fixture = Fixture::of_files(&rt, rt.alloc(), &BESIDE_A_TRIP, Clocks::Utc)?;
@@ -144,7 +145,8 @@ const THREE_YEARS: [FileText; 1] = [(
 C1,1,1,1,1,1,1,1,20240401,20270401\n",
 )];
 
-// The lines of departures at 08:00:00 on one day after the other from an instant on, and the instant a day after the last.
+// The lines of departures at 08:00:00 on one day after the other from an instant on,
+// and the instant a day after the last.
 fn assert_daily(rt: &impl Abort, alloc: Global, lines: &str, from: i64) -> Result<i64, Fail> {
     let mut instant = from;
     for line in lines.lines() {

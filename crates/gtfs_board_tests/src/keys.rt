@@ -153,7 +153,8 @@ fn keys_stand_by_their_parts(rt: HostRuntime) {
     }
 }
 
-// The small dataset has one departure, @1711958400/T1/28800/1/20240401: keys below it, and keys above.
+// The small dataset has one departure, @1711958400/T1/28800/1/20240401:
+// keys below it, and keys above.
 const BELOW: [&str; 10] = [
     "@-999999999999/T1/28800/1/20240401",
     "@1711958399/ZZ/28800/1/20240401",
@@ -192,7 +193,8 @@ fn a_board_is_opened_above_any_key(rt: HostRuntime) -> Result<(), Fail> {
     Ok(())
 }
 
-// Keys around it that no text has: the instant, trip, run and sequence of those below, and of those above.
+// Keys around it that no text has:
+// the instant, trip, run and sequence of those below, and of those above.
 const WIDE_BELOW: [(i64, &str, u32, u32); 4] = [
     (i64::MIN, "T1", 28_800, 1),
     (i64::MIN, "zz", u32::MAX, u32::MAX),

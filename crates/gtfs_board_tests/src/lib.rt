@@ -1,13 +1,13 @@
-//! The tests of departure boards (`gtfs_board`, over feeds and lanes), in a crate of their own: a crate with tests is
-//! proved twice, with them and without. They call public functions alone.
+//! The tests of departure boards (`gtfs_board`, over feeds and lanes), in a crate of their own: a
+//! crate with tests is proved twice, with them and without. They call public functions alone.
 //!
-//! - `plain` lists a board the slow way: it unfolds every event on every day and sorts. `bounds` has what bounds a
-//!   board, and `opening` opens boards and holds them to both.
-//! - `cases` has worked boards, and `worked` compares them; `hostile` has boards of all service days and long ones, and
-//!   `against_plain` those of made feeds. `between` has worked boards with times between timepoints, and `long_gap` a trip
-//!   with 70,000 stop times without a time.
-//! - `keys` has the texts and the order of keys, `lines` lines and sheets, `pages` pages, `outputs` outputs that fail,
-//!   and `refused` a departure for which there is no memory.
+//! - `plain` lists a board the slow way: it unfolds every event on every day and sorts. `bounds`
+//!   has what bounds a board, and `opening` opens boards and holds them to both.
+//! - `cases` has worked boards, and `worked` compares them; `hostile` has boards of all service
+//!   days and long ones, and `against_plain` those of made feeds. `between` has worked boards with
+//!   times between timepoints, and `long_gap` a trip with 70,000 stop times without a time.
+//! - `keys` has the texts and the order of keys, `lines` lines and sheets, `pages` pages, `outputs`
+//!   outputs that fail, and `refused` a departure for which there is no memory.
 //! - `timetables` has the timetables of routes, and `plain_sheets` lists them the slow way.
 //! - `assertions` has assertions as calls.
 //!

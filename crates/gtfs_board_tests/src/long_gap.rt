@@ -1,4 +1,5 @@
-//! A trip with 70,000 stop times without a time between two that have one, each a second after the one before.
+//! A trip with 70,000 stop times without a time between two that have one,
+//! each a second after the one before.
 
 use crate::assertions::{assert_is, assert_page};
 use crate::opening::Fixture;
@@ -15,8 +16,8 @@ use std::test::Fail;
 
 const GAP: usize = 70_000;
 
-// It leaves S2 at 00:00:00 and comes back at 19:26:41, which is 70,001 seconds later. The first and the last stop time between
-// are at S1, the others at S3.
+// It leaves S2 at 00:00:00 and comes back at 19:26:41, which is 70,001 seconds later. The first and
+// the last stop time between are at S1, the others at S3.
 fn rows(alloc: Global) -> Result<String, Fail> {
     let mut text = String::from_str(
         alloc,

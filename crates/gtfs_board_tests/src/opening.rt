@@ -201,7 +201,8 @@ impl<'a> Opening<'a> {
         self.assert_boards(rt, alloc, None, &keys)
     }
 
-    /// The departures above a key are those of the plain list that lie above it, and within the bounds of the board.
+    /// The departures above a key are those of the plain list that lie above it,
+    /// and within the bounds of the board.
     pub(crate) fn assert_plain_above(
         &self,
         rt: &impl Abort,
@@ -212,7 +213,8 @@ impl<'a> Opening<'a> {
         self.assert_boards(rt, alloc, Some(key), &keys)
     }
 
-    // The board of the feed and that of an index have these departures, within the bounds of the board.
+    // The board of the feed and that of an index have these departures,
+    // within the bounds of the board.
     fn assert_boards(
         &self,
         rt: &impl Abort,

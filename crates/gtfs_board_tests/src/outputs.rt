@@ -20,8 +20,9 @@ fn whole_lines(text: &str) -> (u64, &str) {
     }
 }
 
-// A page to an output with this room: what went out is a beginning, and the fault tells the whole lines of it. What is
-// left of the board is the rest, or the rest but for the cut line; a board above the last key has the whole rest.
+// A page to an output with this room: what went out is a beginning, and the fault tells the whole
+// lines of it. What is left of the board is the rest, or the rest but for the cut line; a board
+// above the last key has the whole rest.
 fn assert_cut(
     rt: &impl Abort,
     alloc: Global,

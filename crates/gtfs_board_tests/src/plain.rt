@@ -12,12 +12,12 @@ use std::test::Fail;
 
 const DAY: i64 = 86_400;
 
-// How long before the span a service day may begin, whose event lies in it: the latest second, and the farthest that an
-// origin lies from midnight in UTC.
+// How long before the span a service day may begin, whose event lies in it: the latest second, and
+// the farthest that an origin lies from midnight in UTC.
 const FARTHEST: i64 = 7_199_997 + 93_599;
 
-/// The position of a departure on a board: by instant, trip, run, sequence and day, as keys stand. The numbers of trips follow
-/// the bytes of their ids.
+/// The position of a departure on a board: by instant, trip, run, sequence and day, as keys stand.
+/// The numbers of trips follow the bytes of their ids.
 #[derive(Clone, Copy, Debug, PartialEq, Eq, PartialOrd, Ord)]
 pub(crate) struct PlainKey {
     pub(crate) instant: i64,
@@ -53,7 +53,8 @@ pub(crate) fn plain_keys(
     Ok(keys)
 }
 
-// The days on which a service is active, of those that may have an event in the span, each with its origin.
+// The days on which a service is active, of those that may have an event in the span,
+// each with its origin.
 fn active_days(
     alloc: Global,
     feed: &Feed,

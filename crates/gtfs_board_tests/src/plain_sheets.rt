@@ -42,8 +42,8 @@ fn headings(alloc: Global, feed: &Feed, asked: &Asked<'_>) -> Result<Vec<String>
     Ok(headings)
 }
 
-// The direction and the stops of a trip that is asked for and runs on the date. A tab is below every character of an id,
-// so these texts ascend as the lists of ids do.
+// The direction and the stops of a trip that is asked for and runs on the date. A tab is below
+// every character of an id, so these texts ascend as the lists of ids do.
 fn heading(
     alloc: Global,
     feed: &Feed,
@@ -61,7 +61,8 @@ fn heading(
     Ok(Some(text))
 }
 
-// Whether a trip has stop times and the route and the direction that are asked for, and runs on the date.
+// Whether a trip has stop times and the route and the direction that are asked for,
+// and runs on the date.
 fn is_asked(feed: &Feed, asked: &Asked<'_>, trip: TripNo) -> Result<bool, Fail> {
     if trip.0 >= feed.trip_count() {
         return Ok(false);
@@ -223,7 +224,8 @@ fn run_time(feed: &Feed, trip: TripNo, start: u32, position: usize, times: Times
     Some(start.saturating_add(time).saturating_sub(first))
 }
 
-// When a trip passes a position at an even pace, between the last stop before it and the first after it that have a time.
+// When a trip passes a position at an even pace,
+// between the last stop before it and the first after it that have a time.
 fn between(feed: &Feed, trip: TripNo, position: usize) -> Option<u32> {
     let (from, left) = last_before(feed, trip, position)?;
     let (to, reached) = first_after(feed, trip, position)?;
@@ -246,7 +248,8 @@ fn last_before(feed: &Feed, trip: TripNo, position: usize) -> Option<(usize, u32
     last
 }
 
-// The first position after one at which a trip has a time, and when it arrives there, or else leaves.
+// The first position after one at which a trip has a time, and when it arrives there,
+// or else leaves.
 fn first_after(feed: &Feed, trip: TripNo, position: usize) -> Option<(usize, u32)> {
     for (place, row) in rows_of(feed, trip).iter().enumerate() {
         if position < place {

@@ -8,7 +8,8 @@ use gtfs_fixtures::{Clocks, FileText};
 use std::alloc::Global;
 use std::test::Fail;
 
-// The trip of the small dataset runs on eight days. A departure that has one opens a later day, which takes memory.
+// The trip of the small dataset runs on eight days.
+// A departure that has one opens a later day, which takes memory.
 const EIGHT_DAYS: &[FileText] = &[(
     "calendar.txt",
     "service_id,monday,tuesday,wednesday,thursday,friday,saturday,sunday,start_date,end_date\n\
@@ -35,8 +36,8 @@ fn take_pieces(alloc: Global, size: usize, taken: &mut Vec<Vec<u8>>) {
     }
 }
 
-// Takes all memory that can be addressed, which is not touched: large pieces first, then those of each small size.
-// Where there is too much of it, some is left.
+// Takes all memory that can be addressed, which is not touched: large pieces first, then those of
+// each small size. Where there is too much of it, some is left.
 fn take_memory(alloc: Global) -> Result<Vec<Vec<u8>>, OutOfMemory> {
     let mut taken = Vec::with_capacity(alloc, 1_000_000)?;
     for power in 0..34u32 {
@@ -55,7 +56,8 @@ struct Counts {
     refused: u32,
 }
 
-// When the next departure is, asked for with no memory left, and again with memory where it is refused.
+// When the next departure is, asked for with no memory left,
+// and again with memory where it is refused.
 fn next_instant(
     alloc: Global,
     board: &mut Board<'_>,

@@ -101,8 +101,8 @@ T1,24:59:00,25:00:00,S1,1\nT1,25:10:00,,S2,2\nT1,,,S3,3\nT1,,25:20:00,S2,4\nT1,2
     },
 ];
 
-// Trips of each direction, one whose list of stops goes on, and some that are not shown: one of another service, one
-// without stop times, and one of another route.
+// Trips of each direction, one whose list of stops goes on, and some that are not shown: one of
+// another service, one without stop times, and one of another route.
 const DIRECTIONS: &[FileText] = &[
     (
         "routes.txt",
@@ -369,7 +369,8 @@ fn text_len(alloc: Global, sheet: &Sheet<'_>) -> Result<usize, Fail> {
     Ok(text.len())
 }
 
-// The length is that of the title, of a line with three bytes for each run, and of two lines with nine.
+// The length is that of the title, of a line with three bytes for each run,
+// and of two lines with nine.
 #[test]
 fn a_sheet_has_a_run_each_second_of_a_day(rt: HostRuntime) -> Result<(), Fail> {
     let feed = feed_with(&rt, rt.alloc(), EACH_SECOND)?;

@@ -62,7 +62,8 @@ fn stop_times_between_timepoints_are_listed(rt: HostRuntime) -> Result<(), Fail>
     assert_cases(&rt, rt.alloc(), BETWEEN)
 }
 
-// The lanes, the latest second and the bound are those that the case tells, and what waits and is asked stays within.
+// The lanes, the latest second and the bound are those that the case tells,
+// and what waits and is asked stays within.
 fn assert_bounds(
     rt: &impl Abort,
     alloc: Global,

@@ -49,46 +49,51 @@ use std::alloc::Global;
 use std::convert::AsStr;
 use std::hash::RandomState;
 
-/// Does what the words of a command line ask for, of which the first is the program's name, and answers the status with
-/// which the program is to end.
+/// Does what the words of a command line ask for, of which the first is the program's name, and
+/// answers the status with which the program is to end.
 ///
-/// What the command prints goes to `out`, as does the help or the version that was asked for. Where the command is not
-/// done, `err` is told why: by `clap`'s text where it does not take the words, and else by one line that begins
-/// `gtfs: `. A check with status 1 is done: its report says why, and `err` is told nothing. A failure of `err` changes
-/// nothing.
+/// What the command prints goes to `out`, as does the help or the version that was asked for. Where
+/// the command is not done, `err` is told why: by `clap`'s text where it does not take the words,
+/// and else by one line that begins `gtfs: `. A check with status 1 is done: its report says why,
+/// and `err` is told nothing. A failure of `err` changes nothing.
 ///
-/// The words are judged first, then the values of the options in the order of the usage, then the folder, its feed, the
-/// zone file, the stop and the span, or the route. For boards it is the folder, its feed, the zone file, the requests'
-/// file and then each of its lines, before anything goes out. A merge judges its first folder and the feed in it, then
-/// the second folder and its feed, and then the zones of both and the length of the files to be written.
+/// The words are judged first, then the values of the options in the order of the usage, then the
+/// folder, its feed, the zone file, the stop and the span, or the route. For boards it is the
+/// folder, its feed, the zone file, the requests' file and then each of its lines, before anything
+/// goes out. A merge judges its first folder and the feed in it, then the second folder and its
+/// feed, and then the zones of both and the length of the files to be written.
 ///
 /// - 0: done.
-/// - 1: the feed, or one of two, has errors, or no stop or route of that id, also in a line of requests; the zones of
-///   two feeds have different names, or a file of the merged feed would be longer than 1,073,741,824 bytes.
-/// - 2: `clap` refuses the words, the value of `--from` or `--until` is neither `@` and an instant nor a service day,
-///   that of `--limit` or of `--near` is no count, that of `--after` is no key, that of `--date` is no date, that of
-///   `--direction` is neither 0 nor 1, that of `--cutoff` is no service day, the board would end before it begins, or a
-///   line of requests has too few or too many fields or one of these faults.
-/// - 3: the folder, the zone file, the file of requests or its folder is not there, cannot be read or holds a file over
-///   the limit, the zone file is none, the file of requests is not UTF-8, the folder of the merged feed or a file in it
-///   cannot be written, or the output failed.
+/// - 1: the feed, or one of two, has errors, or no stop or route of that id, also in a line of
+///   requests; the zones of two feeds have different names, or a file of the merged feed would be
+///   longer than 1,073,741,824 bytes.
+/// - 2: `clap` refuses the words, the value of `--from` or `--until` is neither `@` and an instant
+///   nor a service day, that of `--limit` or of `--near` is no count, that of `--after` is no key,
+///   that of `--date` is no date, that of `--direction` is neither 0 nor 1, that of `--cutoff` is
+///   no service day, the board would end before it begins, or a line of requests has too few or too
+///   many fields or one of these faults.
+/// - 3: the folder, the zone file, the file of requests or its folder is not there, cannot be read
+///   or holds a file over the limit, the zone file is none, the file of requests is not UTF-8, the
+///   folder of the merged feed or a file in it cannot be written, or the output failed.
 /// - 4: memory ran out, and neither the folders nor `out` failed.
 ///
-/// A check ends with 0 or 1 only where its whole report went out, and else with what went out of it before. A board
-/// ends with 0 only where a page of it went out: all its lines, or as many as `--limit` says. Boards end with 0 only
-/// where for each request of the file, in their order, its heading and the page of its board went out. A timetable ends
-/// with 0 only where the text of all its sheets went out. A merge ends with 0 only where all nine files of the merged
-/// feed were written and then its whole report went out: the written folder passes the validator and has every
-/// departure and every board of both feeds, those of joined trips once; with a cutoff it has those of the first feed
-/// before that service day, and of the second feed from it on. Where a file could not be written, those before it were
-/// and no later one. Nothing is written but by a merge. What is printed does not depend on the random state.
+/// A check ends with 0 or 1 only where its whole report went out, and else with what went out of it
+/// before. A board ends with 0 only where a page of it went out: all its lines, or as many as
+/// `--limit` says. Boards end with 0 only where for each request of the file, in their order, its
+/// heading and the page of its board went out. A timetable ends with 0 only where the text of all
+/// its sheets went out. A merge ends with 0 only where all nine files of the merged feed were
+/// written and then its whole report went out: the written folder passes the validator and has
+/// every departure and every board of both feeds, those of joined trips once; with a cutoff it has
+/// those of the first feed before that service day, and of the second feed from it on. Where a file
+/// could not be written, those before it were and no later one. Nothing is written but by a merge.
+/// What is printed does not depend on the random state.
 ///
-/// The folders and `out` fail only in a run that ends with 3, and what failed is what `err` is told: after a failed
-/// call of the folders none is made and no later cause is told.
+/// The folders and `out` fail only in a run that ends with 3, and what failed is what `err` is
+/// told: after a failed call of the folders none is made and no later cause is told.
 ///
-/// A check and a timetable make at most 10 calls of the folders, a board 11, boards 12 and a merge 29, of which the
-/// last nine write: exactly so many where they are done. For help, the version and words that are refused there is
-/// none.
+/// A check and a timetable make at most 10 calls of the folders, a board 11, boards 12 and a merge
+/// 29, of which the last nine write: exactly so many where they are done. For help, the version and
+/// words that are refused there is none.
 pub fn run<S: AsStr, F: Folders, O: Out, E: Out>(
     alloc: Global,
     random: RandomState,
@@ -163,8 +168,8 @@ pub fn run<S: AsStr, F: Folders, O: Out, E: Out>(
     finish(ended, err)
 }
 
-// Tells the error output why a command was not done, and answers the status: that of what the command ended with, whatever
-// the error output did.
+// Tells the error output why a command was not done, and answers the status: that of what the
+// command ended with, whatever the error output did.
 fn finish<E: Out>(ended: Result<bool, Refusal<'_>>, err: &mut E) -> u8
     ensures status { result ≡ status_in ended.entry }
     ensures silent { OnOk ended.entry (Keeps (E.told err.old) (E.told err.new)) }
@@ -229,7 +234,8 @@ fn answer<'w>(printed: Result<(), Refusal<'w>>) -> Result<bool, Refusal<'w>>
     }
 }
 
-// Prints the help or the version that was asked for, and refuses all other words that name no command.
+// Prints the help or the version that was asked for,
+// and refuses all other words that name no command.
 fn answer_fault<'w, O: Out>(fault: WordsFault, out: &mut O) -> Result<bool, Refusal<'w>>
     ensures answered { (texts : List Text) → IsFaultOf texts fault
         → IfOk result (IsAnswered texts) }

@@ -1,4 +1,5 @@
-//! How a program ends that calls `run`: its output is flushed, and what keeps it from an answer is told.
+//! How a program ends that calls `run`:
+//! its output is flushed, and what keeps it from an answer is told.
 ghost use Rattle.std.specs.Prelude.{◌≡◌, ◌≤◌, [], IfOk, IfErr, OnOk, OnErr};
 ghost use Rattle.std.specs.Io.Buffered.{writer_buffer, writer_contents};
 ghost use Rattle.std.specs.Io.KnownBytes.{Keeps};
@@ -11,8 +12,8 @@ use crate::fault::Fault;
 use gtfs_table::{Out, WriteOut, write_text};
 use std::io::{BufWriter, Write};
 
-/// Flushes the buffer of the output. Where that fails, a command that found nothing else wrong with its output
-/// (status 0 or 1) did not do what was asked.
+/// Flushes the buffer of the output. Where that fails, a command that found nothing else wrong with
+/// its output (status 0 or 1) did not do what was asked.
 pub fn close<W: Write + Drop>(out: &mut WriteOut<BufWriter<W>>, status: u8) -> Result<u8, Fault>
     ensures kept { IfOk result (λ given. given ≡ status) }
     ensures failed { IfErr result (λ fault. (fault ≡ OutputFailed) × (status ≤ 1)) }

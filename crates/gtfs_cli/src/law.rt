@@ -12,9 +12,10 @@ ghost use Rattle.gtfs_cli.specs.Failures.{Failures};
 ghost use Rattle.gtfs_cli.specs.Sending.{Output};
 ghost use Rattle.gtfs_cli.specs.TimetableRun.{IsTimetableRun};
 
-/// A law of commands, which its contract states: over the same folders, where they and the output work and memory
-/// suffices, each command has one outcome, which is what is printed, what the error output is told, and the status, and
-/// of a merge also what the folders hold then. It does nothing when it runs.
+/// A law of commands, which its contract states: over the same folders, where they and the
+/// output work and memory suffices, each command has one outcome, which is what is printed,
+/// what the error output is told, and the status, and of a merge also what the folders hold
+/// then. It does nothing when it runs.
 pub fn outcomes_are_one()
     ensures check { (limit : ℕ) (store : Store) (dir : List ℕ) (x y : Outcome)
         → IsCheckOutcome limit (Some store) dir x → IsCheckOutcome limit (Some store) dir y
@@ -33,10 +34,11 @@ pub fn outcomes_are_one()
         → x ≡ y }
 {}
 
-/// A law of runs, which its contract states: where no folder and no output fails and memory suffices, what `run` promises
-/// of a command says that it ends with an outcome of that command, whose status it has whatever the error output did. With
-/// `outcomes_are_one` no two runs of a command over the same folders print otherwise or have another status. It does
-/// nothing when it runs.
+/// A law of runs, which its contract states: where no folder and no output fails and
+/// memory suffices, what `run` promises of a command says that it ends with an outcome of
+/// that command, whose status it has whatever the error output did. With
+/// `outcomes_are_one` no two runs of a command over the same folders print otherwise or
+/// have another status. It does nothing when it runs.
 pub fn runs_end_with_outcomes()
     ensures check { (limit : ℕ) (store : Store) (dir : List ℕ)
         (before after : Failures) (old new : Option (List ℕ)) (err told : Output) (status : ℕ)

@@ -1,39 +1,45 @@
 //! The command line of the program `gtfs`, as a library.
 //!
-//! [`run`] reads the words of the command line and does what they ask for, over folders and outputs that its caller
-//! hands in, and answers the status with which the program is to end:
+//! [`run`] reads the words of the command line and does what they ask for, over folders and outputs
+//! that its caller hands in, and answers the status with which the program is to end:
 //!
 //! - 0: done;
 //! - 1: the feed has errors, or no stop or route of that id, or two feeds cannot be merged;
-//! - 2: the words are not as the usage wants them, the value of an option is bad, or a board would end before it begins;
-//! - 3: a folder or a file is not there, cannot be read or is over the limit, a zone file is none, a folder cannot be written, or the
-//!   output failed;
+//! - 2: the words are not as the usage wants them, the value of an option is bad,
+//!   or a board would end before it begins;
+//! - 3: a folder or a file is not there, cannot be read or is over the limit, a zone file is none,
+//!   a folder cannot be written, or the output failed;
 //! - 4: memory ran out, and neither a folder nor the output failed.
 //!
 //! `gtfs check DIR` prints what is wrong with the feed in a folder.
 //!
-//! `gtfs board DIR --zone FILE --stop ID --from T --until T [--limit N] [--after KEY] [--interpolate]` prints the departures at
-//! a stop, in the order of their keys, a line each: at most N, and only those above the key. T is `@` and an instant in seconds since
-//! 1970-01-01T00:00:00Z, or a service day YYYYMMDD, which stands for its origin in the zone: noon less twelve hours. A feed
-//! with errors has no boards.
+//! `gtfs board DIR --zone FILE --stop ID --from T --until T [--limit N] [--after KEY]
+//! [--interpolate]` prints the departures at a stop, in the order of their keys, a line each: at
+//! most N, and only those above the key. T is `@` and an instant in seconds since
+//! 1970-01-01T00:00:00Z, or a service day YYYYMMDD, which stands for its origin in the zone: noon
+//! less twelve hours. A feed with errors has no boards.
 //!
-//! `gtfs timetable DIR --route ID --date D [--direction 0|1] [--interpolate]` prints the runs of a route on a date, a sheet for
-//! each direction and list of stops. D is a date YYYYMMDD, one without service included.
+//! `gtfs timetable DIR --route ID --date D [--direction 0|1] [--interpolate]` prints the
+//! runs of a route on a date, a sheet for each direction and list of stops. D is a date
+//! YYYYMMDD, one without service included.
 //!
-//! With `--interpolate` a stop time with neither an arrival nor a departure has the time of an even pace between its nearest
-//! neighbours that have one. A board lists its departures too, and marks them by an `i`; a timetable prints its times.
+//! With `--interpolate` a stop time with neither an arrival nor a departure has the time of an even
+//! pace between its nearest neighbours that have one. A board lists its departures too, and marks
+//! them by an `i`; a timetable prints its times.
 //!
-//! `gtfs merge A B OUT [--near N] [--cutoff D]` merges the feeds of two folders into a third, which may be one of the two, and
-//! prints which ids changed and how many are joined. With `--near` a stop of B becomes a stop of A that has its type, its name and
-//! its parent and whose coordinates differ from its own by at most N millionths of a degree, and the last line says how many stops
+//! `gtfs merge A B OUT [--near N] [--cutoff D]` merges the feeds of two folders into a third, which
+//! may be one of the two, and prints which ids changed and how many are joined. With `--near` a
+//! stop of B becomes a stop of A that has its type, its name and its parent and whose coordinates
+//! differ from its own by at most N millionths of a degree, and the last line says how many stops
 //! do so. With `--cutoff` A serves the service days before D, and B those from D on.
 //!
-//! `gtfs --version` prints the name and the version of the program, and `--help` how it or a command is called.
+//! `gtfs --version` prints the name and the version of the program,
+//! and `--help` how it or a command is called.
 //!
 //! Where a command cannot be done, one line on the error output says why.
 //!
-//! [`close`] then flushes the output. What a program has to say that cannot call `run`, or whose output is not flushed, is a
-//! [`Fault`], which [`tell`] sends to the error output.
+//! [`close`] then flushes the output. What a program has to say that cannot call `run`, or whose
+//! output is not flushed, is a [`Fault`], which [`tell`] sends to the error output.
 //!
 //! ```text
 //! let mut disk = DiskFolders::new(rt);

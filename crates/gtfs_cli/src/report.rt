@@ -1,5 +1,5 @@
-//! Texts of reports: of a check, a line for each problem and one with their counts, and of a merge, a line for each id
-//! that changes, one for each kind, and one for near stops.
+//! Texts of reports: of a check, a line for each problem and one with their counts, and of a merge,
+//! a line for each id that changes, one for each kind, and one for near stops.
 mod counts;
 mod line;
 mod pieces;

@@ -106,7 +106,8 @@ fn an_empty_board_needs_no_output(rt: HostRuntime) -> Result<(), Fail> {
     Ok(())
 }
 
-// The words are refused with this status and line. With less room for the error output than its line, the same status.
+// The words are refused with this status and line.
+// With less room for the error output than its line, the same status.
 fn assert_same_status(
     rt: &impl Abort,
     alloc: Global,

@@ -185,7 +185,8 @@ pub(super) fn put_utc(
     folders.put(folder, name, &file)
 }
 
-// Puts the zone file of an island, 137 bytes long, where clocks once went from 10 hours behind UTC to 14 before it.
+// Puts the zone file of an island, 137 bytes long,
+// where clocks once went from 10 hours behind UTC to 14 before it.
 pub(super) fn put_island(
     alloc: Global,
     folders: &mut MemoryFolders,
@@ -204,8 +205,8 @@ const UTC: &[u8] = b"\0\0\0\0\0\0UTC\0";
 // The instant of one change and its type; two types, each by its offset; and their designations.
 const ISLAND: &[u8] = b"\0\0\0\0N\xFD\x8B\xA0\x01\xFF\xFFs`\0\0\0\0\xC4\xE0\0\x04-10\0+14\0";
 
-// Appends a header and the data after it. The header counts UT indicators, standard indicators, leap seconds, changes,
-// types and bytes of designations (RFC 9636, section 3.1).
+// Appends a header and the data after it. The header counts UT indicators, standard indicators,
+// leap seconds, changes, types and bytes of designations (RFC 9636, section 3.1).
 fn push_block(file: &mut Vec<u8>, counts: [u8; 6], data: &[u8]) -> Result<(), OutOfMemory> {
     file.extend_from_slice(b"TZif2")?;
     file.extend_from_slice(&[0; 15])?;

@@ -1,8 +1,9 @@
-//! Tests of `gtfs_cli` that a script over the built program cannot make: devices of which a call fails, outputs that take
-//! less than the whole, and folders that lie in memory. The worked examples in `proofs/` compute what its definitions say
-//! of small feeds, words, keys and lines.
+//! Tests of `gtfs_cli` that a script over the built program cannot make: devices of which a call
+//! fails, outputs that take less than the whole, and folders that lie in memory. The worked
+//! examples in `proofs/` compute what its definitions say of small feeds, words, keys and lines.
 //!
-//! Whole answers, from the words and a feed to what is printed, stand in `tests/cases/` at the top of the repository.
+//! Whole answers, from the words and a feed to what is printed,
+//! stand in `tests/cases/` at the top of the repository.
 #![tactic(auto)]
 
 #[cfg(test)]

@@ -1,4 +1,5 @@
-//! Boards of the requests of a file: which requests a text has, which line is refused first, and what goes out.
+//! Boards of the requests of a file:
+//! which requests a text has, which line is refused first, and what goes out.
 
 use crate::assertions::assert_is;
 use crate::ended::Ended;
@@ -156,7 +157,8 @@ fn a_requests_file_has_to_be_utf8(rt: HostRuntime) -> Result<(), Fail> {
     Ok(())
 }
 
-// Words of which something is the matter with a file, and what is told: the first in the order of work.
+// Words of which something is the matter with a file, and what is told:
+// the first in the order of work.
 const FAULTS: &[([&str; 3], u8, &str)] = &[
     (["f9", "z9", "r9"], 3, "gtfs: f9 is not there\n"),
     (["f2", "z9", "r9"], 1, "gtfs: f2 has errors\n"),

@@ -11,9 +11,10 @@ use crate::code::Code;
 use crate::columns::{Column, Empty, Kind};
 use gtfs_field::{FieldFault, read_colour, read_coord, read_count, read_date, read_time};
 
-/// What is wrong with a text under a column: it is empty and the column is required (E06), it is an id or a text with
-/// a control character (E20, W05), or its kind refuses it (E07, E08). None where nothing is. An empty text under a
-/// column that the header does not name (`named`) is no problem of the row.
+/// What is wrong with a text under a column: it is empty and the column is required (E06), it
+/// is an id or a text with a control character (E20, W05), or its kind refuses it (E07, E08).
+/// None where nothing is. An empty text under a column that the header does not name
+/// (`named`) is no problem of the row.
 ///
 /// GTFS Schedule Reference, "Presence" and "Field Types".
 pub fn cell_code(named: bool, column: &Column, text: &str) -> Option<Code>
@@ -25,7 +26,8 @@ pub fn cell_code(named: bool, column: &Column, text: &str) -> Option<Code>
     fault_code(column.kind, text)
 }
 
-/// Whether the header has to name the column, and each row has to fill it (GTFS Schedule Reference, "Presence").
+/// Whether the header has to name the column, and each row has to fill it (GTFS Schedule Reference,
+/// "Presence").
 pub fn is_required(column: &Column) -> bool
     ensures { result ≡ is_required (column_of column.now) }
 {
@@ -36,7 +38,8 @@ pub fn is_required(column: &Column) -> bool
     }
 }
 
-/// What is wrong with a text that is not empty, by its kind: E07, E08, E20 or W05, and None where nothing is.
+/// What is wrong with a text that is not empty, by its kind:
+/// E07, E08, E20 or W05, and None where nothing is.
 ///
 /// GTFS Schedule Reference, "Field Types".
 #[inline(always)]
@@ -92,7 +95,8 @@ fn is_control(byte: u8) -> bool
 /// GTFS Schedule Reference, "Field Types", Enum.
 ///
 /// # Errors
-/// `Form` where the text is empty or holds anything but digits, `Range` where the number is in none of the ranges.
+/// `Form` where the text is empty or holds anything but digits,
+/// `Range` where the number is in none of the ranges.
 #[inline(always)]
 pub fn read_choice(ranges: &[(u32, u32)], text: &str) -> Result<u32, FieldFault>
     ensures { result ≡ one_of ranges.now (count_of text.now) }
@@ -123,8 +127,8 @@ fn code_of<V: Drop>(read: Result<V, FieldFault>) -> Option<Code>
     }
 }
 
-/// What is wrong with a row of `count` fields under a header of `width`: W01 where it is short, W02 where it is long,
-/// and None where it is neither.
+/// What is wrong with a row of `count` fields under a header of `width`: W01 where it is short, W02
+/// where it is long, and None where it is neither.
 ///
 /// GTFS Schedule Reference, "File Requirements".
 pub fn length_code(width: usize, count: usize) -> Option<Code>

@@ -1,10 +1,11 @@
 ghost use Rattle.std.specs.Prelude.{◌≡◌, ◌<◌};
 ghost use Rattle.gtfs_columns.specs.Codes.{all_codes, code_name, code_rank, code_text, is_error};
 
-/// What a problem is: an error, whose name begins with `E`, or a warning, whose name begins with `W`.
+/// What a problem is: an error, whose name begins with `E`, or a warning,
+/// whose name begins with `W`.
 ///
-/// Codes are ordered as they are listed, the errors before the warnings. A feed with an error does not pass; a
-/// warning reports of something that the other crates pass over.
+/// Codes are ordered as they are listed, the errors before the warnings. A feed with an error does
+/// not pass; a warning reports of something that the other crates pass over.
 #[derive(Clone, Copy, Debug, PartialEq, Eq, PartialOrd, Ord)]
 pub enum Code {
     /// A file that a dataset has to have is absent.

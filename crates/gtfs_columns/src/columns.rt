@@ -92,7 +92,8 @@ impl Column {
     }
 }
 
-/// The kept columns of `agency.txt` (GTFS Schedule Reference), in the order in which they are written.
+/// The kept columns of `agency.txt` (GTFS Schedule Reference),
+/// in the order in which they are written.
 pub fn agency_columns() -> [Column; 8]
     ensures { map column_of result ≡ columns_of file_name.Agency }
 {
@@ -108,7 +109,8 @@ pub fn agency_columns() -> [Column; 8]
     ]
 }
 
-/// The kept columns of `stops.txt` (GTFS Schedule Reference), in the order in which they are written.
+/// The kept columns of `stops.txt` (GTFS Schedule Reference),
+/// in the order in which they are written.
 pub fn stops_columns() -> [Column; 12]
     ensures { map column_of result ≡ columns_of file_name.Stops }
 {
@@ -128,7 +130,8 @@ pub fn stops_columns() -> [Column; 12]
     ]
 }
 
-/// The kept columns of `routes.txt` (GTFS Schedule Reference), in the order in which they are written.
+/// The kept columns of `routes.txt` (GTFS Schedule Reference),
+/// in the order in which they are written.
 pub fn routes_columns() -> [Column; 10]
     ensures { map column_of result ≡ columns_of file_name.Routes }
 {
@@ -146,7 +149,8 @@ pub fn routes_columns() -> [Column; 10]
     ]
 }
 
-/// The kept columns of `trips.txt` (GTFS Schedule Reference), in the order in which they are written.
+/// The kept columns of `trips.txt` (GTFS Schedule Reference),
+/// in the order in which they are written.
 pub fn trips_columns() -> [Column; 8]
     ensures { map column_of result ≡ columns_of file_name.Trips }
 {
@@ -162,7 +166,8 @@ pub fn trips_columns() -> [Column; 8]
     ]
 }
 
-/// The kept columns of `stop_times.txt` (GTFS Schedule Reference), in the order in which they are written.
+/// The kept columns of `stop_times.txt` (GTFS Schedule Reference),
+/// in the order in which they are written.
 pub fn stop_times_columns() -> [Column; 9]
     ensures { map column_of result ≡ columns_of file_name.StopTimes }
 {
@@ -179,7 +184,8 @@ pub fn stop_times_columns() -> [Column; 9]
     ]
 }
 
-/// The kept columns of `calendar.txt` (GTFS Schedule Reference), in the order in which they are written.
+/// The kept columns of `calendar.txt` (GTFS Schedule Reference),
+/// in the order in which they are written.
 pub fn calendar_columns() -> [Column; 10]
     ensures { map column_of result ≡ columns_of file_name.Calendar }
 {
@@ -197,7 +203,8 @@ pub fn calendar_columns() -> [Column; 10]
     ]
 }
 
-/// The kept columns of `calendar_dates.txt` (GTFS Schedule Reference), in the order in which they are written.
+/// The kept columns of `calendar_dates.txt` (GTFS Schedule Reference),
+/// in the order in which they are written.
 pub fn calendar_dates_columns() -> [Column; 3]
     ensures { map column_of result ≡ columns_of file_name.CalendarDates }
 {
@@ -208,7 +215,8 @@ pub fn calendar_dates_columns() -> [Column; 3]
     ]
 }
 
-/// The kept columns of `frequencies.txt` (GTFS Schedule Reference), in the order in which they are written.
+/// The kept columns of `frequencies.txt` (GTFS Schedule Reference),
+/// in the order in which they are written.
 pub fn frequencies_columns() -> [Column; 5]
     ensures { map column_of result ≡ columns_of file_name.Frequencies }
 {
@@ -221,7 +229,8 @@ pub fn frequencies_columns() -> [Column; 5]
     ]
 }
 
-/// The kept columns of `transfers.txt` (GTFS Schedule Reference), in the order in which they are written.
+/// The kept columns of `transfers.txt` (GTFS Schedule Reference),
+/// in the order in which they are written.
 pub fn transfers_columns() -> [Column; 8]
     ensures { map column_of result ≡ columns_of file_name.Transfers }
 {

@@ -3,8 +3,8 @@ ghost use Rattle.std.specs.Prelude.{◌≡◌, ◌≤◌, ◌-◌, bytes_eq, dro
 
 /// Whether two texts have the same bytes.
 ///
-/// Texts of four to sixteen bytes, as ids and times mostly are, are compared by two numbers each, which overlap where a
-/// text is shorter, in place of a call.
+/// Texts of four to sixteen bytes, as ids and times mostly are, are compared by two numbers each,
+/// which overlap where a text is shorter, in place of a call.
 #[inline(always)]
 pub fn are_equal(a: &[u8], b: &[u8]) -> bool
     ensures { result ≡ bytes_eq a.now b.now }

@@ -7,7 +7,8 @@ use gtfs_field::OutOfMemory;
 use gtfs_table::{File, Tables};
 use std::alloc::Global;
 
-/// The first rows of the ids that columns of other files name (GTFS Schedule Reference, fields of type "Foreign ID").
+/// The first rows of the ids that columns of other files name (GTFS Schedule Reference,
+/// fields of type "Foreign ID").
 #[derive(Drop)]
 pub struct FeedIds<'a> {
     /// Those of agencies, stops, routes and trips.

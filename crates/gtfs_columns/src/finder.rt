@@ -14,17 +14,17 @@ pub struct FoundId {
 
 /// Finds ids of a column that are asked for one after the other.
 ///
-/// Rows that stand together often name one row, and rows in turn. So before a search is made, a few numbers are tried: that
-/// of the last answer as long as it is repeated, the next, and once an id was not the next those that stand in the slots
-/// for it. What they hold is compared with the id, so that no choice of ids can make an answer wrong, or cost more than the
-/// search.
+/// Rows that stand together often name one row, and rows in turn. So before a search is made, a few
+/// numbers are tried: that of the last answer as long as it is repeated, the next, and once an id
+/// was not the next those that stand in the slots for it. What they hold is compared with the id,
+/// so that no choice of ids can make an answer wrong, or cost more than the search.
 #[derive(Drop)]
 pub struct Finder<'a> {
     /// The ids that are searched.
     pub ids: &'a Ids<'a>,
     last: usize,
-    // Whether the last answer was that of the one before it. Where it was not, no id is compared with it: its text is far
-    // away where ids come in random order.
+    // Whether the last answer was that of the one before it. Where it was not, no id is compared
+    // with it: its text is far away where ids come in random order.
     is_repeated: bool,
     // Whether each id that was asked for was that of the last answer or the next.
     is_in_order: bool,

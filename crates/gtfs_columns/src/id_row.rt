@@ -8,8 +8,8 @@ pub(crate) const HEAD: usize = 16;
 
 // A row and its id. Only the ids are compared.
 //
-// An id that is short stands here a second time: its text lies among the other fields of its file, which the reading of
-// another file drives out of the caches.
+// An id that is short stands here a second time: its text lies among the other fields of its file,
+// which the reading of another file drives out of the caches.
 #[derive(Clone, Copy)]
 pub(crate) struct IdRow<'a> {
     pub(crate) id: &'a str,

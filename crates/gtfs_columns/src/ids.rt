@@ -12,8 +12,8 @@ use gtfs_table::{File, Tables};
 use std::alloc::Global;
 use std::marker::Model;
 
-/// The first row of each id of one file, as a [`Finder`](crate::Finder) looks it up. Ids stand in the first column of the
-/// file's key (GTFS Schedule Reference, the "Primary key" of each file).
+/// The first row of each id of one file, as a [`Finder`](crate::Finder) looks it up. Ids stand in
+/// the first column of the file's key (GTFS Schedule Reference, the "Primary key" of each file).
 #[derive(Drop)]
 pub struct Ids<'a> {
     rows: Vec<IdRow<'a>>,
@@ -42,7 +42,8 @@ impl<'a> Ids<'a> {
     /// The ids of this file, whose texts they borrow from the tables.
     ///
     /// # Errors
-    /// `OutOfMemory` where the list of rows cannot grow, or there is no room to sort it or to find by.
+    /// `OutOfMemory` where the list of rows cannot grow,
+    /// or there is no room to sort it or to find by.
     pub fn new(alloc: Global, tables: &'a Tables, file: File) -> Result<Ids<'a>, OutOfMemory>
         ensures { IfOk result (λ ids. ids ≡ first_rows tables.now file (id_column file)) }
     {

@@ -11,8 +11,8 @@ use gtfs_field::OutOfMemory;
 use gtfs_table::{File, Tables};
 use std::alloc::Global;
 
-/// The location type of each record of stops.txt by its row, where it is readable; an empty one is 0 (GTFS Schedule
-/// Reference, `location_type` of stops.txt).
+/// The location type of each record of stops.txt by its row, where it is readable; an empty one is
+/// 0 (GTFS Schedule Reference, `location_type` of stops.txt).
 ///
 /// # Errors
 /// `OutOfMemory` where the list cannot grow.
@@ -36,7 +36,8 @@ fn type_at(tables: &Tables, index: Option<usize>, row: usize) -> Option<i64>
     read_type(tables.record(File::Stops, row).value(index))
 }
 
-/// The location type of a row of stops.txt in such a list: 0, that of an empty text, where there is no such row.
+/// The location type of a row of stops.txt in such a list:
+/// 0, that of an empty text, where there is no such row.
 pub fn type_of(types: &[Option<i64>], row: usize) -> Option<i64>
     ensures { result ≡ type_of types.now row }
 {

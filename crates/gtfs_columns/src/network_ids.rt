@@ -6,7 +6,8 @@ use gtfs_field::OutOfMemory;
 use gtfs_table::{File, Tables};
 use std::alloc::Global;
 
-/// The ids of the files that have a row for each of them. Those of services come of two files, and stand apart.
+/// The ids of the files that have a row for each of them.
+/// Those of services come of two files, and stand apart.
 pub struct NetworkIds<'a> {
     /// `agency_id` of agency.txt.
     pub agencies: Ids<'a>,

@@ -3,7 +3,8 @@ ghost use Rattle.std.specs.String.{string_capacity};
 ghost use Rattle.gtfs_columns.specs.Values.{plain};
 ghost use Rattle.gtfs_table.specs.Blanks.{is_control};
 
-/// Appends a text with a space in place of each control character. Whoever calls it has made room for the text.
+/// Appends a text with a space in place of each control character.
+/// Whoever calls it has made room for the text.
 pub fn push_plain(shown: &mut String, text: &str)
     requires { string_len shown.old + length text.now ≤ string_capacity shown.old }
     ensures appended { string_bytes shown.new ≡ string_bytes shown.old ++ plain text.now }

@@ -18,8 +18,9 @@ const TRIES: usize = 16;
 // No id has this number: there are slots for fewer.
 const NO_NUMBER: u32 = u32::MAX;
 
-// A guess which number an id has. A short id stands in its slot, and its first row beside it: then a look at the slot is
-// enough to find it, and its row, which is mostly in no near cache, is not read.
+// A guess which number an id has. A short id stands in its slot, and its first row
+// beside it: then a look at the slot is enough to find it, and its row, which is mostly
+// in no near cache, is not read.
 #[derive(Clone, Copy)]
 pub(crate) struct Slot {
     // What is mixed of the id, which tells most others apart.
@@ -32,7 +33,8 @@ pub(crate) struct Slot {
 }
 
 impl Slot {
-    // The slot of a row whose id has this number, and None where the number is too large for a slot.
+    // The slot of a row whose id has this number,
+    // and None where the number is too large for a slot.
     fn new(row: &IdRow<'_>, number: usize) -> Option<Slot>
         ensures { IfSome result (λ slot. IsSlotOf row.now number slot) }
     {
@@ -96,7 +98,8 @@ const FREE: Slot = Slot {
     head: [0; HEAD],
 };
 
-// Free slots for this many ids: more than twice as many, so that most ids stand in the first that is tried.
+// Free slots for this many ids:
+// more than twice as many, so that most ids stand in the first that is tried.
 pub(crate) fn free_slots(alloc: Global, ids: usize) -> Result<Vec<Slot>, OutOfMemory>
     ensures { IfOk result (λ slots. (i : FirstRows) → All (Answers i) slots.items) }
 {
@@ -112,7 +115,8 @@ pub(crate) fn bounds(slots: &[Slot], tag: u32) -> (usize, usize) {
     (first, first.saturating_add(TRIES))
 }
 
-// Puts a row whose id has this number into the first free slot for it. Where there is none, the number is not guessed.
+// Puts a row whose id has this number into the first free slot for it.
+// Where there is none, the number is not guessed.
 pub(crate) fn fill_slot(slots: &mut Vec<Slot>, row: &IdRow<'_>, number: usize)
     ensures { (i : FirstRows) → AnswersRow i row.now number
         → All (Answers i) slots.old.items → All (Answers i) slots.new.items }
@@ -139,15 +143,16 @@ fn free_index(slots: &[Slot], tag: u32) -> Option<usize>
     None
 }
 
-// The index among the first ones that the highest bits of a tag tell, which depend on each byte of an id. There are TRIES
-// slots more than first ones.
+// The index among the first ones that the highest bits of a tag tell, which depend on each byte of
+// an id. There are TRIES slots more than first ones.
 #[inline(always)]
 fn first_slot(slots: usize, tag: u32) -> usize {
     let firsts = slots.saturating_sub(TRIES) as u64;
     (u64::from(tag).wrapping_mul(firsts) >> 32) as usize
 }
 
-// A number that depends on each byte: those of eight after eight, and of the last eight, which may overlap.
+// A number that depends on each byte:
+// those of eight after eight, and of the last eight, which may overlap.
 #[inline(always)]
 pub(crate) fn tag_of(bytes: &[u8]) -> u32 {
     let mut mixed = last_bytes(bytes).wrapping_mul(SPREAD);
@@ -160,7 +165,8 @@ pub(crate) fn tag_of(bytes: &[u8]) -> u32 {
     (mixed >> 32) as u32
 }
 
-// The last eight bytes as one number. Of fewer bytes the first and the last four, and of fewer than four all.
+// The last eight bytes as one number.
+// Of fewer bytes the first and the last four, and of fewer than four all.
 #[inline(always)]
 fn last_bytes(bytes: &[u8]) -> u64 {
     if let [.., a, b, c, d, e, f, g, h] = bytes {

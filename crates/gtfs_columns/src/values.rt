@@ -1,7 +1,9 @@
-//! Readers of the values of texts, one for each kind of column (GTFS Schedule Reference, "Field Types").
+//! Readers of the values of texts, one for each kind of column (GTFS Schedule Reference,
+//! "Field Types").
 //!
-//! A text is a value of a record, cut of its blanks, as [`Record::value`](gtfs_table::Record::value) gives it. Each
-//! reader answers None where the text is empty or has no value of the kind. In tables that pass, only an empty text
+//! A text is a value of a record, cut of its blanks, as
+//! [`Record::value`](gtfs_table::Record::value) gives it. Each reader answers None where
+//! the text is empty or has no value of the kind. In tables that pass, only an empty text
 //! has none (the clause `whole`).
 
 ghost use Rattle.std.specs.Prelude.{◌≡◌, option_map, pos};
@@ -37,7 +39,8 @@ pub fn count(text: &str) -> Option<u32>
     read_count(text).ok()
 }
 
-/// The number of a choice: a count in one of the ranges, each given by its first and its last number ("Enum").
+/// The number of a choice:
+/// a count in one of the ranges, each given by its first and its last number ("Enum").
 pub fn choice(ranges: &[(u32, u32)], text: &str) -> Option<u32>
     ensures value { option_map pos result ≡ amount_of (kind.choice ranges.now) text.now }
     ensures whole { FailsIfEmpty (kind.choice ranges.now) text.now result }
@@ -45,7 +48,8 @@ pub fn choice(ranges: &[(u32, u32)], text: &str) -> Option<u32>
     read_choice(ranges, text).ok()
 }
 
-/// The number of a choice, where an empty text stands for the text `empty`, to compare with other numbers ("Enum").
+/// The number of a choice, where an empty text stands for the text `empty`,
+/// to compare with other numbers ("Enum").
 pub fn choice_or(ranges: &[(u32, u32)], empty: &str, text: &str) -> Option<i64>
     ensures { result ≡ choice_of ranges.now empty.now text.now }
 {
@@ -107,8 +111,8 @@ pub fn colour(text: &str) -> Option<Colour>
     read_colour(text).ok()
 }
 
-/// A coordinate in units of 10^-9 degree, up to 90 degrees from zero as a latitude and 180 as a longitude ("Latitude",
-/// "Longitude").
+/// A coordinate in units of 10^-9 degree, up to 90 degrees from zero as a latitude and 180 as a
+/// longitude ("Latitude", "Longitude").
 pub fn coordinate(axis: Axis, text: &str) -> Option<Coord>
     ensures value { result ≡ amount_of (kind.coordinate axis) text.now }
     ensures whole { FailsIfEmpty (kind.coordinate axis) text.now result }

@@ -15,7 +15,8 @@ pub enum Command<'w> {
     Merge(MergeWords<'w>),
 }
 
-/// What was given to `gtfs board`: each text as it stands in the words, and whether the flag stands there.
+/// What was given to `gtfs board`:
+/// each text as it stands in the words, and whether the flag stands there.
 #[derive(Clone, Copy)]
 pub struct BoardWords<'w> {
     /// The folder of the feed.
@@ -36,7 +37,8 @@ pub struct BoardWords<'w> {
     pub interpolate: bool,
 }
 
-/// What was given to `gtfs boards`: each text as it stands in the words, and whether the flag stands there.
+/// What was given to `gtfs boards`:
+/// each text as it stands in the words, and whether the flag stands there.
 #[derive(Clone, Copy)]
 pub struct BoardsWords<'w> {
     /// The folder of the feed.
@@ -49,7 +51,8 @@ pub struct BoardsWords<'w> {
     pub interpolate: bool,
 }
 
-/// What was given to `gtfs timetable`: each text as it stands in the words, and whether the flag stands there.
+/// What was given to `gtfs timetable`:
+/// each text as it stands in the words, and whether the flag stands there.
 #[derive(Clone, Copy)]
 pub struct TimetableWords<'w> {
     /// The folder of the feed.

@@ -26,7 +26,8 @@ const VERSION: &str = "1.0.0";
 const ABOUT: &str =
     "Checks of GTFS Schedule feeds, departure boards and timetables from them, and one feed of two";
 
-// How all are called, a line each. Help has `Usage: ` before the first, and the others stand below it.
+// How all are called, a line each. Help has `Usage:
+// ` before the first, and the others stand below it.
 const COMMANDS: &str = "gtfs check DIR\n       \
     gtfs board DIR --zone FILE --stop ID --from T --until T [--limit N] [--after KEY] [--interpolate]\n       \
     gtfs boards DIR --zone FILE --requests FILE [--interpolate]\n       \

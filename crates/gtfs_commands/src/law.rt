@@ -3,8 +3,8 @@ ghost use Rattle.std.specs.Prelude.{◌≡◌, List};
 ghost use Rattle.clap.specs.Words.{Text};
 ghost use Rattle.gtfs_commands.specs.Asked.{AsksBoardOf, AsksBoardsOf, AsksCheckOf, AsksMergeOf, AsksTimetableOf, BoardTexts, BoardsTexts, MergeTexts, TimetableTexts};
 
-/// A law of words, which its contract states: of each command, words ask for one, with one text for each id at most.
-/// It does nothing when it runs.
+/// A law of words, which its contract states: of each command, words ask for one, with one text for
+/// each id at most. It does nothing when it runs.
 pub fn words_ask_for_one()
     ensures check { (words : List Text) (a b : Text) → AsksCheckOf words a → AsksCheckOf words b → a
         ≡ b }

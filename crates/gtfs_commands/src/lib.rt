@@ -8,9 +8,10 @@
 //! gtfs merge A B OUT [--near N] [--cutoff D]
 //! ```
 //!
-//! [`read_words`] answers a [`Command`] with the texts that were given, each as it stands in the words, or a
-//! [`WordsFault`]. It judges no text: whether a text is a date, an instant or a number is for the command to say.
-//! `--help` asks for help of the program or of a command, and `--version` for the version of the program.
+//! [`read_words`] answers a [`Command`] with the texts that were given, each as it stands in the
+//! words, or a [`WordsFault`]. It judges no text: whether a text is a date, an instant or a number
+//! is for the command to say. `--help` asks for help of the program or of a command, and
+//! `--version` for the version of the program.
 //!
 //! ```text
 //! let Ok(Command::Check(dir)) = read_words(rt.alloc(), &["gtfs", "check", "f1"]) else {

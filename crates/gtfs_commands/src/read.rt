@@ -15,8 +15,9 @@ use std::convert::AsStr;
 
 /// Reads the words of the command line, of which the first is the program's name.
 /// Errors: [`WordsFault::Help`] where the words ask for help before anything is wrong with them,
-/// [`WordsFault::Version`] where they ask for the version so, [`WordsFault::Refused`] where something is wrong first,
-/// [`WordsFault::OutOfMemory`] where memory ran out. Words that `clap` takes only ever fail for want of memory.
+/// [`WordsFault::Version`] where they ask for the version so, [`WordsFault::Refused`] where
+/// something is wrong first, [`WordsFault::OutOfMemory`] where memory ran out. Words that `clap`
+/// takes only ever fail for want of memory.
 pub fn read_words<'w, S: AsStr>(alloc: Global, words: &'w [S]) -> Result<Command<'w>, WordsFault>
     ensures read { IfOk result (IsCommandOf (subcommand_of gtfs_app (map S.text words.entry.now))) }
     ensures taken { IfOk result (λ _. takes gtfs_app (map S.text words.entry.now) ≡ true) }

@@ -7,8 +7,8 @@
 //!   service. `trim` is the service on one side of a service day, a [`Cut`].
 //! - A [`Zone`] is read from a zone file (TZif, RFC 9636). `origin` is the instant from which the
 //!   times of a service day count: noon less twelve hours, which on a day with a change of clocks
-//!   is not midnight. `civil` is the local date and time at an instant, a [`Civil`]. A [`ZoneClock`]
-//!   tells the same, and faster where many instants lie close together.
+//!   is not midnight. `civil` is the local date and time at an instant, a [`Civil`]. A
+//!   [`ZoneClock`] tells the same, and faster where many instants lie close together.
 //!
 //! A day is a `gtfs_field::Day`, and an instant is a number of seconds since
 //! 1970-01-01T00:00:00Z. A service day is a day from 1900-01-01 to 9998-12-31, of which

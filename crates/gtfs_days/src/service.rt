@@ -78,8 +78,9 @@ impl Service {
         self.exceptions.as_slice()
     }
 
-    /// The service on one side of a service day: it runs on the days there on which it ran, and on no other. Of its calendar
-    /// row the days there stay, and so do its exceptions. Where nothing is left it has a row that names no weekday.
+    /// The service on one side of a service day: it runs on the days there on which it ran, and on
+    /// no other. Of its calendar row the days there stay, and so do its exceptions. Where nothing
+    /// is left it has a row that names no weekday.
     ///
     /// # Errors
     /// `OutOfMemory` where memory ran out.

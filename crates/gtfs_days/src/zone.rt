@@ -129,8 +129,8 @@ impl Zone {
         shown(offset.to_datetime(timestamp).to_plain(), offset)
     }
 
-    // The end of a stretch of instants from this one on at which the zone has one offset: the next change, and at the
-    // latest the end of the day by UTC.
+    // The end of a stretch of instants from this one on at which the zone has one offset: the next
+    // change, and at the latest the end of the day by UTC.
     pub(crate) fn offset_end(&self, instant: i64) -> i64
         requires { IsInstant instant }
         ensures { (x : ℤ) → IsInstant x → instant ≤ℤ x → x <ℤ result

@@ -6,8 +6,8 @@ use crate::civil::Civil;
 use crate::zone::{SECONDS_PER_DAY, Zone};
 use std::marker::Model;
 
-/// The clock of a zone, for one that looks at it often: a look tells what the clock shows until the day ends or the
-/// offset may change.
+/// The clock of a zone, for one that looks at it often: a look tells what the clock shows until the
+/// day ends or the offset may change.
 #[derive(Drop)]
 pub struct ZoneClock<'a> {
     zone: &'a Zone,
@@ -35,9 +35,9 @@ impl<'a> ZoneClock<'a> {
         ZoneClock { zone, known: None }
     }
 
-    /// What the clock shows at an instant, in seconds since 1970-01-01T00:00:00Z, which is one of `jiff`, from
-    /// -377,705,023,201 to 253,402,207,200. Instants may come in any order; it is fast where most come shortly after the
-    /// one before.
+    /// What the clock shows at an instant, in seconds since 1970-01-01T00:00:00Z, which is one of
+    /// `jiff`, from -377,705,023,201 to 253,402,207,200. Instants may come in any order; it is fast
+    /// where most come shortly after the one before.
     pub fn at(&mut self, instant: i64) -> Civil
         requires { IsInstant instant }
         ensures value { IsCivil self.old instant result }

@@ -220,7 +220,8 @@ fn many_days(alloc: Global) -> Result<Service, OutOfMemory> {
     Service::new(alloc, None, &exceptions)
 }
 
-// Holds that half of the exceptions are left, those from the one day to the other, and no calendar row.
+// Holds that half of the exceptions are left, those from the one day to the other,
+// and no calendar row.
 fn assert_half(rt: &impl Abort, half: &Service, first: i32, last: i32) {
     assert_is(rt, half.exceptions().len(), 35_000, "exceptions of a half");
     assert_is(rt, half.week(), None, "a calendar row");

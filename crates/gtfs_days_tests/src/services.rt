@@ -108,8 +108,8 @@ fn service_days_are_dates(rt: HostRuntime) {
     }
 }
 
-// A service that is never without a day runs on both limits, and not on the day after the last; before the first there
-// is no date.
+// A service that is never without a day runs on both limits, and not on the day after the last;
+// before the first there is no date.
 #[test]
 fn the_first_and_the_last_service_day(rt: HostRuntime) -> Result<(), Fail> {
     let first = Day::from_number(FIRST_SERVICE_DAY);

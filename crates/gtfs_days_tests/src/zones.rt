@@ -289,7 +289,8 @@ const WALKS: &[(ZoneFile, i64, i64, i64)] = &[
     (CENTRAL_EUROPE, -377_705_023_205, 1, 10),
 ];
 
-// A clock that is looked at step after step, also in the moment of a change and the other way, shows what the zone does.
+// A clock that is looked at step after step, also in the moment of a change and the other way,
+// shows what the zone does.
 #[test]
 fn a_clock_shows_what_its_zone_does(rt: HostRuntime) -> Result<(), Fail> {
     for (file, from, step, steps) in WALKS {

@@ -10,7 +10,8 @@ use std::alloc::Global;
 use std::fs::OpenFile;
 use std::io::ErrorKind;
 
-// A folder's file, or None where the folder has no entry of that name. How long a file is tells its reading.
+// A folder's file, or None where the folder has no entry of that name.
+// How long a file is tells its reading.
 pub(crate) fn read_file<S: System>(
     system: &S,
     alloc: Global,
@@ -38,7 +39,8 @@ pub(crate) fn read_file<S: System>(
     }
 }
 
-// A folder's file, of which nothing is read yet, or None where the folder has no entry of that name.
+// A folder's file, of which nothing is read yet,
+// or None where the folder has no entry of that name.
 fn open_file<S: System>(
     system: &S,
     alloc: Global,
@@ -62,7 +64,8 @@ fn open_file<S: System>(
     open_at(system, dir, path.as_str())
 }
 
-// The file of this path, which lies in the folder. What is neither a file nor a device is never opened.
+// The file of this path, which lies in the folder.
+// What is neither a file nor a device is never opened.
 fn open_at<S: System>(system: &S, dir: &str, path: &str) -> Result<Option<S::File>, FolderFault>
     ensures opened { IfOk result
         (λ file. OpensOrLacks (S.finds system.now) (S.looks system.now) (S.opens system.now)
@@ -81,8 +84,8 @@ fn open_at<S: System>(system: &S, dir: &str, path: &str) -> Result<Option<S::Fil
     }
 }
 
-// What it means that the path of a folder's file leads to nothing: the folder has no such file, is not there
-// itself, or something else stands in the way.
+// What it means that the path of a folder's file leads to nothing: the folder has no such file, is
+// not there itself, or something else stands in the way.
 fn without_file<S: System>(
     system: &S,
     dir: &str,
@@ -128,7 +131,8 @@ fn size_hint<F: OpenFile>(file: &F, limit: u64) -> usize {
     }
 }
 
-// Makes all levels of the folder that are missing, and the file. Memory is taken before anything is made.
+// Makes all levels of the folder that are missing, and the file.
+// Memory is taken before anything is made.
 pub(crate) fn write_file<S: System>(
     system: &S,
     alloc: Global,

@@ -19,13 +19,14 @@ const ENTRY_LIMIT: usize = 1_000_000;
 
 /// The folders of a file system, by their paths. Contracts say nothing of what they hold.
 ///
-/// A folder or file is not there where no entry has its name. Where there is one and it is of another type
-/// than wanted, or its name is no UTF-8, or a folder has more than 1,000,000 entries, the call fails with
-/// Read. An empty path names no folder. Files of up to 1,073,741,824 bytes are read.
+/// A folder or file is not there where no entry has its name. Where there is one and it is
+/// of another type than wanted, or its name is no UTF-8, or a folder has more than
+/// 1,000,000 entries, the call fails with Read. An empty path names no folder. Files of up
+/// to 1,073,741,824 bytes are read.
 ///
-/// What is neither a file, a link to one, nor a device, as a named pipe, is never opened: `read` fails with
-/// Read, and `write` with Write. A path is asked for what it leads to and then opened, so what takes its
-/// place between the two is opened.
+/// What is neither a file, a link to one, nor a device, as a named pipe, is never opened: `read`
+/// fails with Read, and `write` with Write. A path is asked for what it leads to and then opened,
+/// so what takes its place between the two is opened.
 #[derive(Drop)]
 pub struct DiskFolders<'a, R: Files + Alloc + Clone + Drop> {
     rt: &'a R,
@@ -44,7 +45,8 @@ impl<'a, R: Files + Alloc + Clone + Drop> Model for DiskFolders<'a, R> {
 }
 
 impl<'a, R: Files + Alloc + Clone + Drop> DiskFolders<'a, R> {
-    /// The folders of this runtime's file system, with the limits of [`DiskFolders`]. It takes no memory.
+    /// The folders of this runtime's file system, with the limits of [`DiskFolders`].
+    /// It takes no memory.
     pub fn new(rt: &'a R) -> DiskFolders<'a, R>
         ensures { result ≡
             record { limit = 1_073_741_824; entries = 1_000_000; failures = 0 } }
@@ -52,11 +54,11 @@ impl<'a, R: Files + Alloc + Clone + Drop> DiskFolders<'a, R> {
         DiskFolders::with_limits(rt, FILE_LIMIT, ENTRY_LIMIT)
     }
 
-    /// The folders of this runtime's file system, of which files of up to `limit` bytes are read and folders
-    /// of up to `entries` entries are listed. It takes no memory.
+    /// The folders of this runtime's file system, of which files of up to `limit` bytes are read
+    /// and folders of up to `entries` entries are listed. It takes no memory.
     ///
-    /// For feeds from strangers: a longer file is refused with TooLarge, and a larger folder with Read,
-    /// before more memory is taken.
+    /// For feeds from strangers: a longer file is refused with TooLarge, and a larger folder with
+    /// Read, before more memory is taken.
     pub fn with_limits(rt: &'a R, limit: u64, entries: usize) -> DiskFolders<'a, R>
         ensures { result ≡ record { limit = limit; entries = entries; failures = 0 } }
     {
@@ -152,8 +154,8 @@ impl<'a, R: Files + Alloc + Clone + Drop> Folders for DiskFolders<'a, R> {
         }
     }
 
-    /// Writes the file to the system, after it made the levels of the folder that are missing. It counts
-    /// a failure exactly where it answers Write.
+    /// Writes the file to the system, after it made the levels of the folder that are missing. It
+    /// counts a failure exactly where it answers Write.
     fn write(
         &mut self,
         alloc: Global,

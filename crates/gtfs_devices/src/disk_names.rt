@@ -38,7 +38,8 @@ fn order(a: &Text, b: &Text) -> Ordering
     a.as_str().cmp(b.as_str())
 }
 
-// Adds the names of a folder's entries, as the file system lists them, up to as many names as `entries`.
+// Adds the names of a folder's entries, as the file system lists them,
+// up to as many names as `entries`.
 fn push_names<S: System>(
     system: &S,
     alloc: Global,
@@ -58,7 +59,8 @@ fn push_names<S: System>(
     }
 }
 
-// What it means that the folder of this path could not be listed: only one that is not found is not there.
+// What it means that the folder of this path could not be listed:
+// only one that is not found is not there.
 fn list_fault<S: System>(system: &S, dir: &str, kind: ErrorKind) -> FolderFault
     ensures { TellsUnlisted (S.looks system.now) dir.now kind result }
 {

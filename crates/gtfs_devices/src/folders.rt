@@ -48,14 +48,14 @@ impl<T: Drop> From<AllocFailed<T>> for FolderFault {
     }
 }
 
-/// A device that holds folders of files (GTFS Schedule Reference, "Dataset Files"): each file lies in a
-/// folder under a name, and is a list of bytes.
+/// A device that holds folders of files (GTFS Schedule Reference, "Dataset Files"): each file lies
+/// in a folder under a name, and is a list of bytes.
 ///
-/// A device counts its failures. It answers Read and Write only where that count rose in the very call,
-/// and a call that ends otherwise leaves the count as it was; a count at 2^64 - 1 stays there and counts as
-/// risen. A device has a limit, the greatest length in bytes of a file that it reads, which never changes.
-/// A device may count its calls too. The contents of a device may be unknown, as those of a disk are: the
-/// clauses on its contents say nothing then.
+/// A device counts its failures. It answers Read and Write only where that count rose in the very
+/// call, and a call that ends otherwise leaves the count as it was; a count at 2^64 - 1 stays there
+/// and counts as risen. A device has a limit, the greatest length in bytes of a file that it reads,
+/// which never changes. A device may count its calls too. The contents of a device may be unknown,
+/// as those of a disk are: the clauses on its contents say nothing then.
 pub trait Folders {
     ghost held: { Self → Option Store };
 
@@ -68,8 +68,8 @@ pub trait Folders {
     /// The names of what lies in a folder, in byte order.
     ///
     /// # Errors
-    /// `Read` where the device failed, `NoFolder` where there is no such folder, and `OutOfMemory` where
-    /// memory is refused.
+    /// `Read` where the device failed, `NoFolder` where there is no such folder,
+    /// and `OutOfMemory` where memory is refused.
     fn names(&mut self, alloc: Global, dir: &str) -> Result<Vec<Text>, FolderFault>
         ensures lists { IfOk result
             (λ names. Lists (held self.old) dir.now names.items) }
@@ -109,12 +109,12 @@ pub trait Folders {
         ensures called { MakesCalls 1 (calls self.old) (calls self.new) }
         ensures ends { IsErrOf result FolderFault.Read → FailsAtLast (calls self.new) };
 
-    /// Makes these bytes the whole of a folder's file. Makes the folder where it is absent, and takes the
-    /// place of a file that was there. It judges no limit.
+    /// Makes these bytes the whole of a folder's file. Makes the folder where it is absent, and
+    /// takes the place of a file that was there. It judges no limit.
     ///
     /// # Errors
-    /// `Write` where the device failed; the content of that one file is then open. `OutOfMemory` where
-    /// memory is refused; all is then as it was.
+    /// `Write` where the device failed; the content of that one file is then open. `OutOfMemory`
+    /// where memory is refused; all is then as it was.
     fn write(
         &mut self,
         alloc: Global,

@@ -11,10 +11,11 @@ use gtfs_field::{OutOfMemory, Text};
 use std::alloc::Global;
 use std::marker::Model;
 
-/// Folders in memory, with a limit on the files that are read and, where one is wanted, a call that fails.
+/// Folders in memory, with a limit on the files that are read and, where one is wanted,
+/// a call that fails.
 ///
-/// Each call of `names`, `read` and `write` is counted. The call with the given number fails, with Read or
-/// Write, and no other call does.
+/// Each call of `names`, `read` and `write` is counted. The call with the given number fails, with
+/// Read or Write, and no other call does.
 #[derive(Debug, Drop)]
 pub struct MemoryFolders {
     alloc: Global,
@@ -42,8 +43,8 @@ impl Model for MemoryFolders {
 }
 
 impl MemoryFolders {
-    /// No folder. Files of up to this many bytes are read; the call with this number, from 1, fails. It
-    /// takes no memory.
+    /// No folder. Files of up to this many bytes are read;
+    /// the call with this number, from 1, fails. It takes no memory.
     ///
     /// The count of calls stays at 2^64 - 1, so the number of the call that fails lies below.
     pub fn new(alloc: Global, limit: u64, fail: Option<u64>) -> MemoryFolders
@@ -73,8 +74,8 @@ impl MemoryFolders {
         self.store.put_folder(self.alloc, dir)
     }
 
-    /// Makes these bytes the whole of a folder's file, and makes the folder where it is absent. It is no
-    /// counted call.
+    /// Makes these bytes the whole of a folder's file, and makes the folder where it is absent.
+    /// It is no counted call.
     ///
     /// # Errors
     /// `OutOfMemory` where memory is refused; all is then as it was.
@@ -110,8 +111,8 @@ impl Folders for MemoryFolders {
 
     ghost calls = { calls_of };
 
-    /// Answers Read exactly at the call that fails; at any other, NoFolder exactly where there is no such
-    /// folder, and else the names, as memory suffices.
+    /// Answers Read exactly at the call that fails; at any other, NoFolder exactly where there is
+    /// no such folder, and else the names, as memory suffices.
     fn names(&mut self, alloc: Global, dir: &str) -> Result<Vec<Text>, FolderFault>
         ensures lists { IfOk result
             (λ names. Lists (Some self.old.store) dir.now names.items) }
@@ -139,9 +140,9 @@ impl Folders for MemoryFolders {
         self.store.names(alloc, dir)
     }
 
-    /// Answers Read exactly at the call that fails; at any other, NoFolder exactly where there is no such
-    /// folder, TooLarge exactly where its file is longer than the limit, and else the file or None, as
-    /// memory suffices.
+    /// Answers Read exactly at the call that fails; at any other, NoFolder exactly where there is
+    /// no such folder, TooLarge exactly where its file is longer than the limit, and else the
+    /// file or None, as memory suffices.
     fn read(&mut self, alloc: Global, dir: &str, name: &str) -> Result<Option<Vec<u8>>, FolderFault>
         ensures finds { IfOk result
             (λ file. Finds (Some self.old.store) dir.now name.now
@@ -172,8 +173,8 @@ impl Folders for MemoryFolders {
         self.store.read(alloc, dir, name, self.limit)
     }
 
-    /// Answers Write exactly at the call that fails, and then holds what it held; at any other, holds the
-    /// file, as memory suffices.
+    /// Answers Write exactly at the call that fails, and then holds what it held; at any other,
+    /// holds the file, as memory suffices.
     fn write(
         &mut self,
         alloc: Global,

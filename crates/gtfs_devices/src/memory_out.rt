@@ -7,8 +7,8 @@ use gtfs_field::OutOfMemory;
 use std::alloc::Global;
 use std::marker::Model;
 
-/// An output in memory with room for a number of bytes. It fails where its room ends, after it has taken
-/// what still fitted.
+/// An output in memory with room for a number of bytes.
+/// It fails where its room ends, after it has taken what still fitted.
 #[derive(Debug, Drop)]
 pub struct MemoryOut {
     text: Vec<u8>,
@@ -63,8 +63,8 @@ impl Out for MemoryOut {
     ghost fails = { λ old new.
         (old.left ≡ 0) × (new ≡ record old { failures = counted old.failures }) };
 
-    /// Takes as many bytes as still fit, at most the whole text. Fails exactly where the text has bytes
-    /// and none fits.
+    /// Takes as many bytes as still fit, at most the whole text.
+    /// Fails exactly where the text has bytes and none fits.
     fn write(&mut self, text: &[u8]) -> Result<usize, Failed>
         ensures taken { IfOk result
             (λ n. Appends (Some self.old.text) (Some self.new.text) (take n text.now)) }

@@ -87,8 +87,8 @@ impl MemoryStore {
         }
     }
 
-    // Makes these bytes the whole of a folder's file, and makes the folder where it is absent. A refusal
-    // leaves all as it was.
+    // Makes these bytes the whole of a folder's file, and makes the folder where it is absent.
+    // A refusal leaves all as it was.
     pub(crate) fn put(
         &mut self,
         alloc: Global,

@@ -19,9 +19,9 @@ pub struct OutFault {
 
 /// An output, which takes text in pieces of its own size and counts its failures.
 ///
-/// A write that succeeds leaves the count of failures as it was, and one that fails counts once; a count
-/// at 2^64 - 1 stays there and counts as risen. What went out may be unknown, as of a terminal: the clauses
-/// on what went out say nothing then.
+/// A write that succeeds leaves the count of failures as it was, and one that fails counts once; a
+/// count at 2^64 - 1 stays there and counts as risen. What went out may be unknown, as of a
+/// terminal: the clauses on what went out say nothing then.
 pub trait Out {
     ghost told: { Self → Option (List ℕ) };
 
@@ -30,7 +30,8 @@ pub trait Out {
     // A write that failed led from the first state to the second.
     ghost fails: { Self → Self → Type 0 } = { λ _ _. ⊤ };
 
-    /// Takes a beginning of the text, at least one byte where the text has any, and answers its length.
+    /// Takes a beginning of the text, at least one byte where the text has any,
+    /// and answers its length.
     ///
     /// # Errors
     /// `Failed` where the output failed; nothing of the text went out then.
@@ -54,8 +55,8 @@ pub trait Out {
 /// Sends a whole text out. It takes no memory.
 ///
 /// # Errors
-/// `OutFault` where the output failed: it tells how many bytes went out, which are the first of the text.
-/// Exactly one write failed, and it was the last.
+/// `OutFault` where the output failed: it tells how many bytes went out, which are the first of the
+/// text. Exactly one write failed, and it was the last.
 pub fn write_text<O: Out>(out: &mut O, text: &[u8]) -> Result<(), OutFault>
     ensures whole { OnOk result (Appends (O.told out.old) (O.told out.new) text.now) }
     ensures prefix { IfErr result

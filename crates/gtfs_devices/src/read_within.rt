@@ -10,8 +10,8 @@ const CHUNK: usize = 65_536;
 
 // All that a reader has left, where that is no more than the limit.
 //
-// It takes at most one byte more than the limit, and makes at most two reads more than that many: where
-// the reader has not ended by then, and at a fault of the reader, it answers Read.
+// It takes at most one byte more than the limit, and makes at most two reads more than that many:
+// where the reader has not ended by then, and at a fault of the reader, it answers Read.
 // Room for `size` bytes is made at once.
 pub(crate) fn read_within<F: Read>(
     alloc: Global,

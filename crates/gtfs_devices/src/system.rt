@@ -25,7 +25,8 @@ pub(crate) enum Entry {
 }
 
 impl Entry {
-    // A device of the system is one that takes and gives bytes at once, so a pipe and a socket are none.
+    // A device of the system is one that takes and gives bytes at once,
+    // so a pipe and a socket are none.
     fn of(found: &Metadata) -> Entry
         ensures file { result ≡ Entry.File → IsFile (file_type found.now) }
         ensures folder { result ≡ Entry.Folder → IsDir (file_type found.now) }
@@ -67,8 +68,9 @@ pub(crate) trait Listing {
         ensures refused { IfErr result RefusesListing };
 }
 
-// What a disk asks of a file system. Each relation holds of a path and what the system answered, so that the
-// clauses on a disk's calls can say what the system had said. They are proved for every system.
+// What a disk asks of a file system. Each relation holds of a path and what the system
+// answered, so that the clauses on a disk's calls can say what the system had said.
+// They are proved for every system.
 pub(crate) trait System {
     type File: Read + Write + OpenFile + Drop;
 
@@ -92,7 +94,8 @@ pub(crate) trait System {
     fn find(&self, path: &str) -> Result<Entry, ErrorKind>
         ensures { finds self.now path.now result };
 
-    // The entry of a path itself, as a link that leads nowhere. A slash at the end counts for nothing.
+    // The entry of a path itself, as a link that leads nowhere.
+    // A slash at the end counts for nothing.
     fn look(&self, path: &str) -> Result<Entry, ErrorKind>
         ensures { looks self.now path.now result };
 
@@ -176,7 +179,8 @@ impl<R: Files + Clone + Drop, A: Allocator + Clone> Listing for ReadDir<R, A> {
     }
 }
 
-// Adds the names of the entries that a listing has left. One that cannot be told is no folder that is not there.
+// Adds the names of the entries that a listing has left.
+// One that cannot be told is no folder that is not there.
 fn push_listed<R: Files + Clone + Drop, A: Allocator + Clone>(
     alloc: Global,
     entries: usize,

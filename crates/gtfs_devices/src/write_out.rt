@@ -7,7 +7,8 @@ use crate::output::{Failed, Out};
 use std::io::{BufWriter, ErrorKind, Write};
 use std::marker::Model;
 
-/// An output that hands its text to a writer, as a file or a terminal, and tells of it what the writer tells.
+/// An output that hands its text to a writer, as a file or a terminal,
+/// and tells of it what the writer tells.
 #[derive(Debug, Drop)]
 pub struct WriteOut<W: Write> {
     writer: W,
@@ -59,8 +60,8 @@ impl<W: Write> WriteOut<W> {
 }
 
 impl<W: Write + Drop> WriteOut<BufWriter<W>> {
-    /// Flushes the buffer: then nothing is left in it, and its writer was handed all that the buffer
-    /// took. That writer is flushed too.
+    /// Flushes the buffer: then nothing is left in it, and its writer was handed all that the
+    /// buffer took. That writer is flushed too.
     ///
     /// # Errors
     /// `Failed` where the writer failed, which counts as a failure.
@@ -85,8 +86,8 @@ impl<W: Write> Out for WriteOut<W> {
 
     ghost fails = { λ old new. Keeps (W.contents old.0) (W.contents new.0) × (new.1 ≡ counted old.1) };
 
-    /// Hands the text to the writer once, and again where a signal interrupted it. A writer that takes
-    /// nothing of a text that has bytes fails.
+    /// Hands the text to the writer once, and again where a signal interrupted it. A writer that
+    /// takes nothing of a text that has bytes fails.
     fn write(&mut self, text: &[u8]) -> Result<usize, Failed>
         ensures taken { IfOk result
             (λ n. Appends (W.contents self.old.0) (W.contents self.new.0) (take n text.now)) }

@@ -12,8 +12,9 @@ use std::alloc::Global;
 use std::hash::RandomState;
 use std::marker::Model;
 
-/// A feed of which all is read, before its stop times have their places. It lends nothing of the tables: let them go first,
-/// and stop times that have to be copied find free what they took. It is seen as the rows of the feed that it becomes.
+/// A feed of which all is read, before its stop times have their places. It lends nothing of the
+/// tables: let them go first, and stop times that have to be copied find free what they took. It is
+/// seen as the rows of the feed that it becomes.
 ///
 /// ```text
 /// let draft = FeedDraft::new(alloc, random, passed)?;
@@ -39,11 +40,13 @@ impl Model for FeedDraft {
 }
 
 impl FeedDraft {
-    /// Reads the feed of a dataset that passed the validator, with the same numbers as [`Feed::new`] (GTFS Schedule
-    /// Reference, "Dataset Files"). Headsigns are hashed by the random state, on which no answer of the feed depends.
+    /// Reads the feed of a dataset that passed the validator, with the same numbers as
+    /// [`Feed::new`] (GTFS Schedule Reference, "Dataset Files"). Headsigns are hashed by the random
+    /// state, on which no answer of the feed depends.
     ///
     /// # Errors
-    /// `OutOfMemory` where memory is refused, and where stop times have more than 4,294,967,295 different headsigns.
+    /// `OutOfMemory` where memory is refused,
+    /// and where stop times have more than 4,294,967,295 different headsigns.
     pub fn new(
         alloc: Global,
         random: RandomState,

@@ -13,8 +13,8 @@ use std::alloc::Global;
 use std::hash::RandomState;
 use std::marker::Model;
 
-/// The rows of a feed by number, and its ids by text. A feed is always sound: its lists are in the order of their keys,
-/// every reference names a row, and no rule of the validator is broken.
+/// The rows of a feed by number, and its ids by text. A feed is always sound: its lists are in the
+/// order of their keys, every reference names a row, and no rule of the validator is broken.
 pub struct Feed {
     parts: Parts,
 }
@@ -40,7 +40,8 @@ impl Drop for Feed {
 impl Feed {
     /// The feed of these rows: ids have their numbers in the order of their bytes.
     ///
-    /// Ids are found in the rows themselves, so this takes no memory, and the random state is not needed.
+    /// Ids are found in the rows themselves, so this takes no memory,
+    /// and the random state is not needed.
     ///
     /// # Errors
     /// None: `OutOfMemory` never comes.
@@ -185,7 +186,8 @@ impl Feed {
         row.service_id.as_str()
     }
 
-    /// The stop times of the trip of a number, which is below [`Feed::trip_count`], by their sequence.
+    /// The stop times of the trip of a number, which is below [`Feed::trip_count`],
+    /// by their sequence.
     pub fn trip_rows(&self, trip: TripNo) -> &[StopRow]
         requires { trip.0 < length self.now.trips }
         ensures { slice_get (stop_rows_by_trip self.now) trip.0 ≡ Some result.now }
@@ -193,7 +195,8 @@ impl Feed {
         self.parts.stop_times.of_trip(trip.0)
     }
 
-    /// The frequencies of the trip of a number, which is below [`Feed::trip_count`], by their start.
+    /// The frequencies of the trip of a number, which is below [`Feed::trip_count`],
+    /// by their start.
     pub fn trip_frequencies(&self, trip: TripNo) -> &[Frequency]
         requires { trip.0 < length self.now.trips }
         ensures { slice_get (frequencies_by_trip self.now) trip.0 ≡ Some result.now }

@@ -16,16 +16,18 @@ use std::alloc::Global;
 use std::hash::RandomState;
 
 impl Feed {
-    /// The feed of a dataset that passed the validator: its content with numbers in place of ids (GTFS Schedule
-    /// Reference, "Dataset Files").
+    /// The feed of a dataset that passed the validator: its content with numbers in place of ids
+    /// (GTFS Schedule Reference, "Dataset Files").
     ///
-    /// Headsigns of stop times have their numbers in the order in which the stop times first name them, trip after trip and
-    /// in each trip by sequence. Stop times were read when the dataset was checked, and are not read again. The dataset is
-    /// lent and not changed, and the feed lends nothing of it. Headsigns are hashed by the random state, on which no answer of
-    /// the feed depends.
+    /// Headsigns of stop times have their numbers in the order in which the stop times first
+    /// name them, trip after trip and in each trip by sequence. Stop times were read when
+    /// the dataset was checked, and are not read again. The dataset is lent and not changed,
+    /// and the feed lends nothing of it. Headsigns are hashed by the random state, on which
+    /// no answer of the feed depends.
     ///
     /// # Errors
-    /// `OutOfMemory` where memory is refused, and where stop times have more than 4,294,967,295 different headsigns.
+    /// `OutOfMemory` where memory is refused,
+    /// and where stop times have more than 4,294,967,295 different headsigns.
     pub fn new(alloc: Global, random: RandomState, passed: &Passed<'_>) -> Result<Feed, OutOfMemory>
         ensures content { IfOk result
             (λ feed. content_of_parts feed ≡ content_of_dataset passed.now) }

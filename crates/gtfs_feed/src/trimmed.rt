@@ -13,12 +13,13 @@ use std::alloc::Global;
 use std::hash::RandomState;
 
 impl Feed {
-    /// The feed on one side of a service day: each service is what [`Service::trim`](gtfs_days::Service::trim) leaves of it,
-    /// and all other rows stay, also those of trips that then never run (GTFS Schedule Reference, `calendar.txt` and
+    /// The feed on one side of a service day: each service is what
+    /// [`Service::trim`](gtfs_days::Service::trim) leaves of it, and all other rows stay, also
+    /// those of trips that then never run (GTFS Schedule Reference, `calendar.txt` and
     /// `calendar_dates.txt`). The day itself belongs to the later side.
     ///
-    /// This feed is not changed, and the new one lends nothing of it. Rows and headsigns keep their numbers. The random
-    /// state is not needed.
+    /// This feed is not changed, and the new one lends nothing of it. Rows and headsigns keep their
+    /// numbers. The random state is not needed.
     ///
     /// # Errors
     /// `OutOfMemory` where memory is refused.

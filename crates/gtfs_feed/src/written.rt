@@ -15,10 +15,12 @@ use std::alloc::Global;
 
 // The written form: what a feed looks like as files.
 impl Feed {
-    /// The nine files of the feed as tables: each has the header of its kept columns and a row of canonical texts for
-    /// each row of the feed (GTFS Schedule Reference, "Field Definitions"). No other file is there.
+    /// The nine files of the feed as tables: each has the header of its kept columns and a row
+    /// of canonical texts for each row of the feed (GTFS Schedule Reference, "Field
+    /// Definitions"). No other file is there.
     ///
-    /// The tables pass the validator, and read back they are the same feed, whatever else their folder holds.
+    /// The tables pass the validator, and read back they are the same feed,
+    /// whatever else their folder holds.
     ///
     /// # Errors
     /// `OutOfMemory` where memory is refused. Then nothing of the tables is left.
@@ -30,8 +32,8 @@ impl Feed {
     }
 
     /// The text of one file of the feed, made without a table: it is what
-    /// [`Tables::write`](gtfs_table::Tables::write) gives of that file of [`Feed::to_tables`], and read again it gives
-    /// the same table (RFC 4180, section 2, with LF at the end of each record).
+    /// [`Tables::write`](gtfs_table::Tables::write) gives of that file of [`Feed::to_tables`], and
+    /// read again it gives the same table (RFC 4180, section 2, with LF at the end of each record).
     ///
     /// # Errors
     /// `OutOfMemory` where memory is refused. Then nothing of the text is left.
@@ -45,8 +47,8 @@ impl Feed {
         gtfs_writing::file_text(alloc, self.parts(), file)
     }
 
-    /// Whether the text of some file, as [`Feed::file_text`] gives it, has more bytes than this limit. No text is made:
-    /// each file is counted, in one pass.
+    /// Whether the text of some file, as [`Feed::file_text`] gives it, has more bytes than this
+    /// limit. No text is made: each file is counted, in one pass.
     ///
     /// # Errors
     /// `OutOfMemory` where memory is refused.

@@ -1,4 +1,5 @@
-//! What passes a stop: each case is a change to the small dataset, with the events that it has at one stop.
+//! What passes a stop: each case is a change to the small dataset,
+//! with the events that it has at one stop.
 
 use crate::assertions::assert_is;
 use crate::full::FULL;
@@ -15,8 +16,8 @@ use std::process::Abort;
 use std::random::RandomSource;
 use std::test::Fail;
 
-// A change to the small dataset, and what passes the stop then: for each event its service, second, trip, run, sequence
-// and row.
+// A change to the small dataset, and what passes the stop then:
+// for each event its service, second, trip, run, sequence and row.
 struct Case {
     what: &'static str,
     files: &'static [FileText],

@@ -49,8 +49,8 @@ fn moment_at(event: &Event, seq: i64) -> Moment {
     }
 }
 
-// A lane's events, one after the other: one call for the first, and three for each event. A moment at an event finds the
-// next one, and a moment at the sequence before finds the event.
+// A lane's events, one after the other: one call for the first, and three for each event. A moment
+// at an event finds the next one, and a moment at the sequence before finds the event.
 fn walk<L: Lane>(
     rt: &impl Abort,
     feed: &Feed,
@@ -96,8 +96,8 @@ fn walk_all(
     Ok(events)
 }
 
-/// The stop has as many lanes as is wanted, which together have its events, each once, and count each call. So it is of
-/// those made of the feed, and of those made of an index.
+/// The stop has as many lanes as is wanted, which together have its events, each once, and count
+/// each call. So it is of those made of the feed, and of those made of an index.
 pub(crate) fn assert_lanes(
     rt: &impl Abort,
     alloc: Global,

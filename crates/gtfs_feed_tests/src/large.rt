@@ -1,6 +1,7 @@
 //! A dataset with more rows of each kind than two bytes can number: no call gives up there.
 //!
-//! `rt try` builds with checks that make this take most of an hour; built for the gate it takes seconds.
+//! `rt try` builds with checks that make this take most of an hour;
+//! built for the gate it takes seconds.
 
 use crate::again::{assert_same, assert_same_file, write_tables};
 use crate::assertions::assert_is;
@@ -22,7 +23,8 @@ use std::test::Fail;
 // Two bytes number 65,536.
 const COUNT: u32 = 70_000;
 
-// The number of the first id: all have six digits, so their order by bytes is that of their numbers.
+// The number of the first id:
+// all have six digits, so their order by bytes is that of their numbers.
 const FIRST: u32 = 100_000;
 
 // A file, and the rows that it has for each number, with a `#` in its place.
@@ -32,8 +34,8 @@ struct Rows {
     rows: &'static str,
 }
 
-// The trips T go from one stop each to another one, those of U have frequencies, and those of V share both stops and a
-// service.
+// The trips T go from one stop each to another one, those of U have frequencies, and those of V
+// share both stops and a service.
 const FILES: &[Rows] = &[
     Rows {
         name: "agency.txt",
@@ -265,7 +267,8 @@ fn assert_searched(rt: &impl Abort, alloc: Global, feed: &Feed) -> Result<(), Fa
     Ok(())
 }
 
-// Each service has a calendar row of 1 April and an exception of 2 April. On each side of the 2nd one of them stays.
+// Each service has a calendar row of 1 April and an exception of 2 April.
+// On each side of the 2nd one of them stays.
 fn assert_trimmed<R: Abort + RandomSource>(rt: &R, alloc: Global, feed: &Feed) -> Result<(), Fail> {
     for (side, kept, lost, header) in [
         (Side::Before, File::Calendar, File::CalendarDates, 31),

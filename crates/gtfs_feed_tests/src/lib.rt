@@ -1,16 +1,19 @@
-//! The tests of the feed and of what passes its stops (`gtfs_feed`, `gtfs_runs` and the crates below them down to
-//! `gtfs_rows`), in a crate of their own: a crate with tests is proved twice, with them and without. They call public
-//! functions alone.
+//! The tests of the feed and of what passes its stops (`gtfs_feed`, `gtfs_runs` and the crates
+//! below them down to `gtfs_rows`), in a crate of their own: a crate with tests is proved twice,
+//! with them and without. They call public functions alone.
 //!
 //! - `assertions` has assertions as calls, and `named` the numbers of ids and the ids of numbers.
-//! - `full` is one with a value in every column, in texts and orders other than those that are written.
-//! - `ids` has the numbers of ids, `orders` rows in every order, `places` stop times in every place of their file, and `rows`
-//!   what the rows of a feed say.
+//! - `full` is one with a value in every column,
+//!   in texts and orders other than those that are written.
+//! - `ids` has the numbers of ids, `orders` rows in every order, `places` stop times in every place
+//!   of their file, and `rows` what the rows of a feed say.
 //! - `written` has the written form of feeds, and `again` feeds that are written and read again.
-//! - `events` has what passes a stop, by worked cases, and `lanes` walks the lanes of each of them; `seeks` asks a lane
-//!   from positions between its events, and `unions` all lanes of each stop together.
+//! - `events` has what passes a stop, by worked cases, and `lanes` walks the lanes of
+//!   each of them; `seeks` asks a lane from positions between its events, and `unions`
+//!   all lanes of each stop together.
 //! - `stop_index` has the departure rows of each stop.
-//! - `timepoints` has what passes a stop at stop times between timepoints, under given and under filled times.
+//! - `timepoints` has what passes a stop at stop times between timepoints,
+//!   under given and under filled times.
 //! - `large` has more rows of each kind than two bytes can number.
 //! - `times` has stop times between timepoints, filled (`gtfs_times`).
 //! - `trimmed` has feeds on one side of a service day.

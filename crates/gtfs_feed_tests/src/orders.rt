@@ -153,8 +153,8 @@ fn headsigns_of(alloc: Global, feed: &Feed) -> Result<String, OutOfMemory> {
     Ok(text)
 }
 
-// Each file of the feed with the rows of a file in an order is that of the first feed. Headsigns have their numbers in the
-// order of the trips T, T10 and T2, and in each by sequence.
+// Each file of the feed with the rows of a file in an order is that of the first feed. Headsigns
+// have their numbers in the order of the trips T, T10 and T2, and in each by sequence.
 fn assert_same(
     rt: &impl Abort,
     alloc: Global,

@@ -10,8 +10,8 @@ use std::alloc::Global;
 use std::process::Abort;
 use std::test::Fail;
 
-/// Trips of every direction, among them two whose stops begin those of another, one without stop times, and one of
-/// another route.
+/// Trips of every direction, among them two whose stops begin those of another, one without stop
+/// times, and one of another route.
 pub(crate) const FILES: [FileText; 4] = [
     (
         "stops.txt",
@@ -83,8 +83,8 @@ fn push_pattern(feed: &Feed, pattern: &Pattern, text: &mut String) -> Result<(),
     Ok(text.push_str("\n")?)
 }
 
-// The direction and stops of a trip with stop times. A tab is below every character of an id, so these texts ascend as
-// the lists of ids do.
+// The direction and stops of a trip with stop times. A tab is below every character of an id, so
+// these texts ascend as the lists of ids do.
 fn heading(
     alloc: Global,
     feed: &Feed,

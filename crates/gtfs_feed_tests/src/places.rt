@@ -1,4 +1,5 @@
-//! Stop times in every place of their file: a feed made of a draft is the same whether they can stay there or not.
+//! Stop times in every place of their file:
+//! a feed made of a draft is the same whether they can stay there or not.
 
 use crate::assertions::{assert_count, assert_is};
 use gtfs_feed::Feed;

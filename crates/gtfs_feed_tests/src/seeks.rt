@@ -1,4 +1,5 @@
-//! A lane that is asked from positions before, at, between and past its events, and by ids that no trip has.
+//! A lane that is asked from positions before, at, between and past its events,
+//! and by ids that no trip has.
 
 use crate::assertions::{assert_holds, assert_is};
 use crate::named::stop_named;
@@ -9,7 +10,8 @@ use std::mem::size_of;
 use std::process::Abort;
 use std::test::Fail;
 
-// A second, the id of a trip, a run and a sequence, with the second and the trip of the least event above.
+// A second, the id of a trip, a run and a sequence,
+// with the second and the trip of the least event above.
 type Asked = (i64, &'static str, u32, i64, Option<(u32, usize)>);
 
 fn assert_first<L: Lane>(
@@ -66,7 +68,8 @@ fn a_period_is_asked_from_any_position(rt: HostRuntime) -> Result<(), Fail> {
     Ok(())
 }
 
-// The trips T10 and T2 at 90,600, with the numbers 0 and 1. No trip has the ids T0, T100, T11 and T20.
+// The trips T10 and T2 at 90,600, with the numbers 0 and 1.
+// No trip has the ids T0, T100, T11 and T20.
 const OF_A_LIST: &[Asked] = &[
     (i64::MIN, "", 0, -1, Some((90_600, 0))),
     (90_600, "T0", 3_599_999, 9, Some((90_600, 0))),
@@ -108,7 +111,8 @@ fn seek_of_run(run: u32) -> Seek<'static> {
     }
 }
 
-// A run at each second from 0 to 3,599,998. A lane that walked over its runs would look at 3,000,000,000,000 of them.
+// A run at each second from 0 to 3,599,998.
+// A lane that walked over its runs would look at 3,000,000,000,000 of them.
 #[test]
 fn a_trip_of_3_599_999_runs_is_one_small_lane(rt: HostRuntime) -> Result<(), Fail> {
     let frequencies = "trip_id,start_time,end_time,headway_secs\nT1,00:00:00,999:59:59,1\n";

@@ -14,8 +14,8 @@ use std::process::Abort;
 use std::random::RandomSource;
 use std::test::Fail;
 
-// A change to the small dataset, and its departure rows under given and under filled times: for each the stop, the trip
-// and the position.
+// A change to the small dataset, and its departure rows under given and under filled times: for
+// each the stop, the trip and the position.
 struct Case {
     what: &'static str,
     files: &'static [FileText],

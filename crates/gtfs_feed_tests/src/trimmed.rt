@@ -1,4 +1,5 @@
-//! Feeds on one side of a service day: what stays of their services, and that all else stays as it is.
+//! Feeds on one side of a service day:
+//! what stays of their services, and that all else stays as it is.
 
 ghost use Rattle.std.specs.Prelude.{◌≡◌, true};
 ghost use Rattle.gtfs_days.specs.Cut.{cut_day};
@@ -313,7 +314,8 @@ fn a_service_that_is_left_without_rows_passes(rt: HostRuntime) -> Result<(), Fai
     Ok(())
 }
 
-// The feed on one side of a day, asked for once more where memory was refused. `rt try --test --fail-alloc N` refuses it.
+// The feed on one side of a day, asked for once more where memory was refused.
+// `rt try --test --fail-alloc N` refuses it.
 fn trimmed_at_last<R: Abort + RandomSource>(
     rt: &R,
     alloc: Global,

@@ -9,7 +9,8 @@ use std::alloc::Global;
 use std::process::Abort;
 use std::test::Fail;
 
-// The first event of the list, which ascends, that belongs to the service and lies above the moment.
+// The first event of the list, which ascends,
+// that belongs to the service and lies above the moment.
 fn first_listed(
     events: &[(ServiceNo, Event)],
     service: ServiceNo,
@@ -106,8 +107,8 @@ fn around(event: &Event) -> [Moment; 9] {
     ]
 }
 
-// For every service and every position around an event of the stop, the least event that a lane of the service has above the
-// position is the first that the plain list has.
+// For every service and every position around an event of the stop, the least event that a lane of
+// the service has above the position is the first that the plain list has.
 fn assert_union(
     rt: &impl Abort,
     alloc: Global,
@@ -135,7 +136,8 @@ fn assert_union(
     Ok(())
 }
 
-/// The lanes of each stop of a feed have what the plain list has, wherever they are asked, under all times.
+/// The lanes of each stop of a feed have what the plain list has, wherever they are asked,
+/// under all times.
 pub(crate) fn assert_unions(rt: &impl Abort, alloc: Global, feed: &Feed) -> Result<(), Fail> {
     for number in 0..feed.stop_count() {
         assert_union(rt, alloc, feed, StopNo(number), Times::Given)?;

@@ -138,8 +138,8 @@ fn values_are_written_canonically_and_rows_by_key(rt: HostRuntime) -> Result<(),
     assert_written(&rt, rt.alloc(), &FULL, FULL_WRITTEN)
 }
 
-// Control characters in the texts of every file with texts: a tab, a line feed, a delete and two others. Such a file
-// passes with warnings.
+// Control characters in the texts of every file with texts: a tab, a line feed, a delete and two
+// others. Such a file passes with warnings.
 const CONTROLLED: [FileText; 5] = [
     (
         "agency.txt",

@@ -52,12 +52,14 @@ impl Clock {
     }
 }
 
-/// Reads a time: one to three digits of hours, `:MM:SS`; 0 to 3,599,999 seconds from the origin of the service day.
+/// Reads a time: one to three digits of hours, `:MM:SS`;
+/// 0 to 3,599,999 seconds from the origin of the service day.
 ///
 /// GTFS Schedule Reference, "Field Types", Time.
 ///
 /// # Errors
-/// `Form` for every other text, also where the minutes or seconds are above 59. A time is never out of range.
+/// `Form` for every other text, also where the minutes or seconds are above 59.
+/// A time is never out of range.
 pub fn read_time(text: &str) -> Result<Clock, FieldFault>
     ensures { result ≡ time_of text.now }
 {
@@ -69,7 +71,8 @@ pub fn read_time(text: &str) -> Result<Clock, FieldFault>
 
 /// Appends the canonical text of a time: H:MM:SS with at least two digits of hours.
 ///
-/// Times from 1000:00:00 on, which only a run that starts late has, take four digits of hours and are not read back.
+/// Times from 1000:00:00 on, which only a run that starts late has,
+/// take four digits of hours and are not read back.
 ///
 /// # Errors
 /// `OutOfMemory` where the text cannot grow; it is then as it was.

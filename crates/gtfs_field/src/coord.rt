@@ -78,14 +78,16 @@ impl Coord {
     }
 }
 
-/// Reads a coordinate in degrees: an optional sign, and digits with at most one point among them, at least one digit.
+/// Reads a coordinate in degrees:
+/// an optional sign, and digits with at most one point among them, at least one digit.
 ///
-/// Digits after the ninth of the fraction are cut off, and the limit is judged after the cut: 90 degrees for a
-/// latitude, 180 for a longitude, on either side of zero (GTFS Schedule Reference, "Field Types", Latitude and
-/// Longitude).
+/// Digits after the ninth of the fraction are cut off, and the limit is judged after the cut: 90
+/// degrees for a latitude, 180 for a longitude, on either side of zero (GTFS Schedule Reference,
+/// "Field Types", Latitude and Longitude).
 ///
 /// # Errors
-/// `Form` for every other text, exponents included; `Range` where the cut value lies beyond the limit.
+/// `Form` for every other text, exponents included;
+/// `Range` where the cut value lies beyond the limit.
 pub fn read_coord(text: &str, axis: Axis) -> Result<Coord, FieldFault>
     ensures { result ≡ coordinate_of axis text.now }
 {
@@ -117,7 +119,8 @@ fn begins_with_sign(text: &[u8]) -> bool
     matches!(text, [b'+' | b'-', ..])
 }
 
-// Units of 10^-9 degree, `u64::MAX` where there are more; None where the text has no coordinate's shape.
+// Units of 10^-9 degree, `u64::MAX` where there are more;
+// None where the text has no coordinate's shape.
 fn magnitude_of(body: &str) -> Option<u64>
     ensures { result ≡ (if has_coordinate_shape body.now
         then Some (min (magnitude body.now) (2 ^ 64 - 1)) else None) }
@@ -151,7 +154,8 @@ fn around_point(body: &str) -> (&str, &str)
     body.split_once('.').unwrap_or((body, ""))
 }
 
-// The billionths that the digits of a fraction mean, further digits cut off; None where a byte is no digit.
+// The billionths that the digits of a fraction mean, further digits cut off;
+// None where a byte is no digit.
 fn billionths_of(fraction: &[u8]) -> Option<u64>
     ensures value { result ≡ (if all_ascii_digits fraction.now
         then Some (number fraction.now * 10 ^ 9 / 10 ^ length fraction.now) else None) }
@@ -171,8 +175,8 @@ fn billionths_of(fraction: &[u8]) -> Option<u64>
 // How many units one degree has.
 const NANODEGREES: u64 = 1_000_000_000;
 
-/// Appends the canonical text of a coordinate in degrees: `-` where it is negative, and the digits of the fraction up to
-/// the last that is not zero.
+/// Appends the canonical text of a coordinate in degrees: `-` where it is negative, and the digits
+/// of the fraction up to the last that is not zero.
 ///
 /// # Errors
 /// `OutOfMemory` where the text cannot grow; it is then as it was.

@@ -67,7 +67,8 @@ impl Day {
 /// GTFS Schedule Reference, "Field Types", Date.
 ///
 /// # Errors
-/// `Form` where the text is not eight digits, `Range` where the calendar has no such day or the year is before 1900.
+/// `Form` where the text is not eight digits,
+/// `Range` where the calendar has no such day or the year is before 1900.
 pub fn read_date(text: &str) -> Result<Day, FieldFault>
     ensures { result ≡ date_of text.now }
 {

@@ -3,7 +3,8 @@ ghost use Rattle.std.specs.Prelude.{◌≡◌, ◌+◌, ◌*◌, ◌-◌, ◌^�
 ghost use Rattle.std.specs.Str.{all_ascii_digits};
 ghost use Rattle.gtfs_field.specs.Digits.{is_number, number, is_wide};
 
-// The number that decimal digits write, `u64::MAX` where it is larger; None where the text is not one digit or more.
+// The number that decimal digits write, `u64::MAX` where it is larger;
+// None where the text is not one digit or more.
 pub(crate) fn number_of(text: &[u8]) -> Option<u64>
     ensures value { result ≡ (if is_number text.now
         then Some (min (number text.now) (2 ^ 64 - 1)) else None) }

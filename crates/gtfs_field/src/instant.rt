@@ -5,12 +5,14 @@ ghost use Rattle.gtfs_field.specs.Kinds.{instant_of, is_plain_number, plain_numb
 use crate::digits::number_of;
 use crate::fault::FieldFault;
 
-/// Reads the instant of a key text, without its `@`: seconds since 1970-01-01T00:00:00Z, with `-` where negative.
+/// Reads the instant of a key text, without its `@`:
+/// seconds since 1970-01-01T00:00:00Z, with `-` where negative.
 ///
 /// The form is this toolkit's own: no leading zeros, no `-0`, at most 12 digits.
 ///
 /// # Errors
-/// `Form` where the text is not such a number of any length, `Range` where it has more than 12 digits.
+/// `Form` where the text is not such a number of any length,
+/// `Range` where it has more than 12 digits.
 pub fn read_instant(text: &str) -> Result<i64, FieldFault>
     ensures { result ≡ instant_of text.now }
 {

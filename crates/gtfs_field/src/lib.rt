@@ -1,20 +1,22 @@
-//! The values of a GTFS field: every kind of text that a feed's files hold is read here to a value, and every value is
-//! written as its one canonical text.
+//! The values of a GTFS field: every kind of text that a feed's files hold is read here to a value,
+//! and every value is written as its one canonical text.
 //!
-//! - [`Clock`], [`Day`], [`Colour`] and [`Coord`] are the values: small, `Copy` and ordered. A count is a `u32`, an
-//!   instant an `i64` of seconds since 1970-01-01T00:00:00Z.
-//! - `read_time`, `read_date`, `read_colour`, `read_count`, `read_coord` and `read_instant` take a text that is cut of
-//!   its blanks and answer its value or a [`FieldFault`]. They take no memory.
-//! - `push_time`, `push_date`, `push_colour`, `push_count` and `push_coord` append the canonical text of a value, all of
-//!   it or nothing.
-//! - [`Text`] and [`List`] are what public records of the crates above hold in place of `String` and `Vec`.
+//! - [`Clock`], [`Day`], [`Colour`] and [`Coord`] are the values: small, `Copy` and ordered. A
+//!   count is a `u32`, an instant an `i64` of seconds since 1970-01-01T00:00:00Z.
+//! - `read_time`, `read_date`, `read_colour`, `read_count`, `read_coord` and `read_instant` take a
+//!   text that is cut of its blanks and answer its value or a [`FieldFault`]. They take no memory.
+//! - `push_time`, `push_date`, `push_colour`, `push_count` and `push_coord` append the canonical
+//!   text of a value, all of it or nothing.
+//! - [`Text`] and [`List`] are what public records of the crates above hold
+//!   in place of `String` and `Vec`.
 //!
 //! ```text
 //! let clock = read_time(text).ok()?;                       // 25:10:00 is 90,600 seconds
 //! push_time(alloc, text, Clock::from_seconds(25_500))?;    // appends 07:05:00
 //! ```
 //!
-//! What a text of each kind means stands in `specs/Kinds.antt`, the canonical texts in `specs/Canonical.antt`.
+//! What a text of each kind means stands in `specs/Kinds.antt`,
+//! the canonical texts in `specs/Canonical.antt`.
 #![tactic(auto)]
 
 mod ascii;

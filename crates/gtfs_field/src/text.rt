@@ -10,7 +10,8 @@ const SHORT: usize = 24;
 
 /// A text that owns its bytes, as public records hold it: contracts see the bytes in order.
 ///
-/// Of a text that was copied up to 24 bytes lie in the value itself, so that whoever reads a record has them at hand.
+/// Of a text that was copied up to 24 bytes lie in the value itself,
+/// so that whoever reads a record has them at hand.
 #[derive(Debug, Drop)]
 pub struct Text {
     bytes: Bytes,

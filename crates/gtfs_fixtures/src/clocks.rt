@@ -11,10 +11,11 @@ pub enum Clocks {
     Utc,
     /// One hour ahead, and two from the last Sunday in March to the last one in October.
     CentralEurope,
-    /// Ten hours behind, and fourteen ahead from 2011-12-30 10:00:00 UTC on: 2011-12-30 is skipped, and begins with the
-    /// day after it.
+    /// Ten hours behind, and fourteen ahead from 2011-12-30 10:00:00 UTC on: 2011-12-30 is skipped,
+    /// and begins with the day after it.
     SkipsADay,
-    /// Twenty hours behind, and twenty ahead from that instant on: 2011-12-31 begins before 2011-12-30.
+    /// Twenty hours behind, and twenty ahead from that instant on:
+    /// 2011-12-31 begins before 2011-12-30.
     GoesBack,
     /// Five hours, 21 minutes and ten seconds ahead.
     Seconds,
@@ -96,8 +97,8 @@ fn push_zone(
     Ok(())
 }
 
-// A header: how many UT indicators, standard indicators, leap seconds, transitions, types and bytes of designations
-// follow.
+// A header: how many UT indicators, standard indicators, leap seconds, transitions,
+// types and bytes of designations follow.
 fn push_header(file: &mut Vec<u8>, counts: [u8; 6]) -> Result<(), OutOfMemory> {
     file.extend_from_slice(b"TZif2")?;
     file.extend_from_slice(&[0; 15])?;

@@ -39,7 +39,8 @@ C1,1,1,1,1,1,1,1,20240401,20240401\n",
     ),
 ];
 
-/// Folders that hold the small dataset in the folder f1, with these files in place of those with their names.
+/// Folders that hold the small dataset in the folder f1,
+/// with these files in place of those with their names.
 pub fn folders_of(alloc: Global, changes: &[FileText]) -> Result<MemoryFolders, OutOfMemory> {
     let mut folders = MemoryFolders::new(alloc, 10_000, None);
     put_small(&mut folders, changes)?;

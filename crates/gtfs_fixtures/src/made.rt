@@ -1,4 +1,5 @@
-//! Datasets by the throw of dice: trips at the same seconds, past midnight, with gaps, periods, directions and exceptions.
+//! Datasets by the throw of dice:
+//! trips at the same seconds, past midnight, with gaps, periods, directions and exceptions.
 
 use crate::dataset::{FEED, FileText, put_all, read_first};
 use gtfs_feed::Feed;

@@ -1,6 +1,6 @@
-//! Calls that can answer want of memory, far above each size that a program could mistake for its memory. What the
-//! contracts say of such a call is met by a body that only answers want of memory, so each is run here or in another test
-//! of a large size: `docs/dev/large-cases.md` has them all.
+//! Calls that can answer want of memory, far above each size that a program could mistake for its
+//! memory. What the contracts say of such a call is met by a body that only answers want of memory,
+//! so each is run here or in another test of a large size: `docs/dev/large-cases.md` has them all.
 //!
 //! - `texts` are values, keys and lines that are appended to long texts, and hold long ones.
 //! - `folders` are many folders, many files in one, and many records and fields.

@@ -88,7 +88,8 @@ fn a_line_has_long_texts(rt: HostRuntime) -> Result<(), Fail> {
     let zone = Clocks::Utc.zone(rt.alloc())?;
     let mut text = String::new(rt.alloc());
     push_line(rt.alloc(), &mut text, &zone, &departure)?;
-    // beside the long texts: `@1711958400/`, `/28800/1/20240401`, a clock of 25 characters, the mark, five tabs, a line feed
+    // beside the long texts: `@1711958400/`, `/28800/1/20240401`, a clock of 25 characters,
+    // the mark, five tabs, a line feed
     assert_is(&rt, text.len(), 4 * LONG + 61, "length");
     assert_that(&rt, text.as_str().ends_with("H\ts\n"), "the mark is there");
     Ok(())

@@ -14,7 +14,8 @@ use gtfs_rows::{RouteNo, StopNo, Transfer, TripNo};
 use std::alloc::Global;
 use std::collections::BTreeMap;
 
-// The transfers of both feeds by the new numbers of what they name. Where both feeds have a key, that of A stays.
+// The transfers of both feeds by the new numbers of what they name.
+// Where both feeds have a key, that of A stays.
 pub(crate) fn merged_transfers(
     alloc: Global,
     sides: &Sides,

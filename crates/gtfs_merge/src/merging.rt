@@ -26,14 +26,15 @@ use thiserror::Error;
 /// What a merge keeps to.
 #[derive(Clone, Copy, Debug, PartialEq, Eq)]
 pub struct Options {
-    /// How many bytes each file of the merged feed may have at most, as [`Feed::file_text`] gives it.
-    /// Where nothing else is said, 1,073,741,824.
+    /// How many bytes each file of the merged feed may have at most, as [`Feed::file_text`] gives
+    /// it. Where nothing else is said, 1,073,741,824.
     pub file_limit: u64,
-    /// Up to how many millionths of a degree a stop of the second feed may lie from one of the first, in latitude and in
-    /// longitude, to become that stop: see [`Names::near`]. At most 2,147,483,647. Where nothing else is said, no stop does.
+    /// Up to how many millionths of a degree a stop of the second feed may lie from one of the
+    /// first, in latitude and in longitude, to become that stop: see [`Names::near`]. At most
+    /// 2,147,483,647. Where nothing else is said, no stop does.
     pub near: Option<u32>,
-    /// The service day from which on the second feed is taken, and the first one only before it. Its year is at most 9998.
-    /// Where nothing else is said, both feeds are taken whole.
+    /// The service day from which on the second feed is taken, and the first one only before it.
+    /// Its year is at most 9998. Where nothing else is said, both feeds are taken whole.
     pub cutoff: Option<Day>,
 }
 
@@ -55,7 +56,8 @@ impl Default for Options {
 
 /// Two feeds in one, and what their ids became.
 pub struct Merged {
-    /// The rows of both feeds under their new ids, those of joined ids and of near stops once, as the first feed has them.
+    /// The rows of both feeds under their new ids, those of joined ids and of near stops once,
+    /// as the first feed has them.
     pub feed: Feed,
     /// What the ids of both feeds became, and which are joined.
     pub names: Names,
@@ -93,20 +95,22 @@ impl From<OutOfMemory> for MergeFault {
     }
 }
 
-/// The two feeds in one: the rows of the first and then those of the second, each id and each key once, once the ids of
-/// both are what [`Names`] tells. Where both feeds have a transfer of one key, that of the first stays (GTFS Schedule
-/// Reference, primary key of `transfers.txt`). With near stops two transfers of a feed may get one key; that with the
+/// The two feeds in one: the rows of the first and then those of the second, each id and each
+/// key once, once the ids of both are what [`Names`] tells. Where both feeds have a transfer
+/// of one key, that of the first stays (GTFS Schedule Reference, primary key of
+/// `transfers.txt`). With near stops two transfers of a feed may get one key; that with the
 /// lesser key in its own feed stays.
 ///
-/// Every departure of both feeds is one of the merged feed, that of a joined trip once, and nothing else is; the board of
-/// a stop lists what both feeds list of the stops that became it. With a cutoff the first feed is [trimmed](Feed::trimmed)
-/// to the service days before it, and the second to those from it on, before anything is compared. The merged feed passes
-/// the validator. Both feeds are lent, and no answer depends on the random state.
+/// Every departure of both feeds is one of the merged feed, that of a joined trip once, and nothing
+/// else is; the board of a stop lists what both feeds list of the stops that became it. With a
+/// cutoff the first feed is [trimmed](Feed::trimmed) to the service days before it, and the second
+/// to those from it on, before anything is compared. The merged feed passes the validator. Both
+/// feeds are lent, and no answer depends on the random state.
 ///
 /// # Errors
-/// In this order: `ZoneDiffers` exactly where the zones of the two feeds have different names; `TooLarge` only where the
-/// text of some file of the merged feed has more bytes than `file_limit`, and the feed is given only where none has;
-/// `OutOfMemory` where memory is refused.
+/// In this order: `ZoneDiffers` exactly where the zones of the two feeds have different names;
+/// `TooLarge` only where the text of some file of the merged feed has more bytes than `file_limit`,
+/// and the feed is given only where none has; `OutOfMemory` where memory is refused.
 pub fn merge(
     alloc: Global,
     random: RandomState,
@@ -133,8 +137,8 @@ pub fn merge(
     judged(alloc, random, Cow::Borrowed(a), Cow::Borrowed(b), options)
 }
 
-/// The same of two feeds that are given up. With a cutoff each is let go as soon as it is trimmed, so that no more memory is
-/// held than without one.
+/// The same of two feeds that are given up. With a cutoff each is let go as soon as it is trimmed,
+/// so that no more memory is held than without one.
 ///
 /// # Errors
 /// Those of [`merge`], in the same order.
@@ -164,7 +168,8 @@ pub fn merge_owned(
     judged(alloc, random, Cow::Owned(a), Cow::Owned(b), options)
 }
 
-// The merged feed, or why there is none; the zones are judged first. The feeds are lent or given up.
+// The merged feed, or why there is none; the zones are judged first.
+// The feeds are lent or given up.
 fn judged(
     alloc: Global,
     random: RandomState,
@@ -208,8 +213,8 @@ fn rows_of(
     }
 }
 
-// The same of the first feed before a day and of the second one from it on. A feed that is given up is let go before more
-// is made of the other one.
+// The same of the first feed before a day and of the second one from it on. A feed that is given up
+// is let go before more is made of the other one.
 fn rows_cut_at(
     alloc: Global,
     random: RandomState,

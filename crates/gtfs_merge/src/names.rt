@@ -22,11 +22,12 @@ use std::marker::Model;
 
 /// What the ids of two feeds become when the feeds are merged, and which of them are joined.
 ///
-/// An id of the first feed stays. An id of the second one stays, too, where the first feed has no such id, or where both
-/// have the same row under it: such an id is joined. Every other id `x` of the second feed becomes `x_merged_n`, with the
-/// least `n` from 1 for which neither feed has that id. An agency's empty id that is not joined becomes
-/// `agency_merged_n` in either feed. With near stops ([`Options::near`](crate::Options::near)) a stop of the second feed
-/// that is not joined and lies near stops of the first one gets the least id of these.
+/// An id of the first feed stays. An id of the second one stays, too, where the first feed has no
+/// such id, or where both have the same row under it: such an id is joined. Every other id `x` of
+/// the second feed becomes `x_merged_n`, with the least `n` from 1 for which neither feed has that
+/// id. An agency's empty id that is not joined becomes `agency_merged_n` in either feed. With near
+/// stops ([`Options::near`](crate::Options::near)) a stop of the second feed that is not joined and
+/// lies near stops of the first one gets the least id of these.
 pub struct Names {
     agencies: KindNames,
     stops: KindNames,
@@ -66,7 +67,8 @@ impl Drop for Names {
 }
 
 impl Names {
-    // What the ids of two feeds become where these are the twins of B's rows. No answer depends on the random state.
+    // What the ids of two feeds become where these are the twins of B's rows.
+    // No answer depends on the random state.
     pub(crate) fn of_twins(
         alloc: Global,
         random: RandomState,
@@ -135,8 +137,9 @@ impl Names {
         self.kind(kind).joined.as_slice()
     }
 
-    /// The stops of the second feed that are near a stop of the first one and not joined, each with that one, by their own
-    /// ids. Both are one stop of the merged feed, with the id and the row of the first feed.
+    /// The stops of the second feed that are near a stop of the first one and not joined,
+    /// each with that one, by their own ids. Both are one stop of the merged feed, with the
+    /// id and the row of the first feed.
     pub fn near(&self) -> &[(Text, Text)]
         ensures { result.now ≡ self.now.near }
     {

@@ -60,7 +60,8 @@ fn is_nameless(kind: Kind, id: &str) -> bool
     }
 }
 
-// What an id of A becomes, None where it stays: only an agency's empty id that is not joined gets another.
+// What an id of A becomes, None where it stays:
+// only an agency's empty id that is not joined gets another.
 pub(crate) fn new_id_of_a(
     alloc: Global,
     sides: &Sides,
@@ -79,8 +80,8 @@ pub(crate) fn new_id_of_a(
     Ok(None)
 }
 
-// What an id of B becomes, None where it stays. This is its twin: it gets the id of its twin, and else it stays where A
-// lacks it.
+// What an id of B becomes, None where it stays. This is its twin: it gets the id of its twin, and
+// else it stays where A lacks it.
 pub(crate) fn new_id_of_b(
     alloc: Global,
     sides: &Sides,
@@ -139,7 +140,8 @@ fn new_agency_id_of_b(alloc: Global, sides: &Sides) -> Result<String, OutOfMemor
         ≡ agency_b (content_a sides.now) (content_b sides.now) []) }
 {
     sides.soundness();
-    // An agency without an id is alone in its feed: where A has one, too, that one took the first number.
+    // An agency without an id is alone in its feed:
+    // where A has one, too, that one took the first number.
     if has_this_id(sides.a, Kind::Agency, "") {
         return numbered_id(alloc, AGENCY, 2);
     }

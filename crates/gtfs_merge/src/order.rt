@@ -19,7 +19,8 @@ use gtfs_field::OutOfMemory;
 use std::alloc::Global;
 use std::cmp::Ordering;
 
-// A row of the merged feed under its new id, by its number on one side. A row of B with a twin is that of A.
+// A row of the merged feed under its new id, by its number on one side.
+// A row of B with a twin is that of A.
 #[derive(Drop)]
 pub(crate) struct MergedRow<'a> {
     pub(crate) id: &'a str,
@@ -27,7 +28,8 @@ pub(crate) struct MergedRow<'a> {
     pub(crate) number: usize,
 }
 
-// The rows of a kind of the merged feed, by their new ids: all of A's and those of B's that have no twin.
+// The rows of a kind of the merged feed, by their new ids:
+// all of A's and those of B's that have no twin.
 pub(crate) fn merged_rows<'a>(
     alloc: Global,
     sides: &Sides,
@@ -122,7 +124,8 @@ fn add_if_apart<'a>(
     Ok(())
 }
 
-// The rows by their new ids. This sort is fast where long stretches are in order, as the rows of each side mostly are.
+// The rows by their new ids.
+// This sort is fast where long stretches are in order, as the rows of each side mostly are.
 fn sorted(mut rows: Vec<MergedRow<'_>>) -> Result<Vec<MergedRow<'_>>, OutOfMemory>
     ensures same { IfOk result (λ sorted. IsPermutation (map entry_value rows.entry.items)
         (map entry_value sorted.items)) }

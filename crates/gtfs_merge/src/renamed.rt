@@ -18,7 +18,8 @@ use std::alloc::Global;
 use std::hash::RandomState;
 use std::marker::Model;
 
-// The ids of one kind of a feed, by number, each with what it became. An id that stays has no second text.
+// The ids of one kind of a feed, by number, each with what it became.
+// An id that stays has no second text.
 pub(crate) struct Renamed {
     names: IndexMap<String, Option<String>, RandomState>,
 }
@@ -119,7 +120,8 @@ impl Renamed {
         Ok(Renamed { names })
     }
 
-    // Adds an id that is not there, which takes the next number, and what it became, None where it stays.
+    // Adds an id that is not there, which takes the next number, and what it became,
+    // None where it stays.
     fn push(&mut self, alloc: Global, id: &str, name: Option<String>) -> Result<(), OutOfMemory>
         requires { list_any (bytes_eq id.now) self.old.ids ≡ false }
         ensures { OnOk result (self.new ≡ with_id self.old id.now (name_or id.now name)) }

@@ -40,7 +40,8 @@ pub(crate) fn is_alike_stop(a: &Stop, b: &Stop) -> bool
         && is_same_text(&a.platform_code, &b.platform_code)
 }
 
-// Whether two routes are the same, their ids apart, where `agency` tells whether their agencies are.
+// Whether two routes are the same, their ids apart,
+// where `agency` tells whether their agencies are.
 pub(crate) fn is_same_route(a: &Route, b: &Route, agency: bool) -> bool
     ensures { (p q : Parts) (rename_a rename_b : Renaming)
         → same_agency_in p q rename_a rename_b a.now b.now ≡ agency
@@ -57,8 +58,8 @@ pub(crate) fn is_same_route(a: &Route, b: &Route, agency: bool) -> bool
         && is_same_number(a.route_sort_order, b.route_sort_order)
 }
 
-// Whether two trips are the same, their ids, their stop times and their frequencies apart, where `route` and `service` tell
-// whether their routes and their services are.
+// Whether two trips are the same, their ids, their stop times and their frequencies apart, where
+// `route` and `service` tell whether their routes and their services are.
 pub(crate) fn is_same_trip(a: &Trip, b: &Trip, route: bool, service: bool) -> bool
     ensures { (p q : Parts) (rename_route rename_service rename_stop : Renaming)
         (xs ys : List StopRowOf) (us vs : List FrequencyOf)
@@ -79,7 +80,8 @@ pub(crate) fn is_same_trip(a: &Trip, b: &Trip, route: bool, service: bool) -> bo
         && a.bikes_allowed.number() == b.bikes_allowed.number()
 }
 
-// Whether two stop times are the same, where `stop` and `headsign` tell whether their stops and their headsigns are.
+// Whether two stop times are the same,
+// where `stop` and `headsign` tell whether their stops and their headsigns are.
 pub(crate) fn is_same_stop_row(a: StopRow, b: StopRow, stop: bool, headsign: bool) -> bool
     ensures { (p q : Parts) (rename : Renaming) → same_stop_id_in p q rename a b ≡ stop
         → same_headsign_in p q a b ≡ headsign → result ≡ same_stop_row_in p q rename a b }

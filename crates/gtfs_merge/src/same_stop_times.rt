@@ -13,7 +13,8 @@ use crate::same_rows::is_same_stop_row;
 use crate::sides::Sides;
 use gtfs_rows::{OptionalHeadsign, StopNo, StopRow};
 
-// Whether stop times of A and of B are the same, one by one, where `stops` has the twin of each stop of B.
+// Whether stop times of A and of B are the same, one by one,
+// where `stops` has the twin of each stop of B.
 pub(crate) fn are_same_stop_times(
     sides: &Sides,
     stops: &[Option<StopNo>],

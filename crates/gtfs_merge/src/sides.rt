@@ -26,8 +26,8 @@ impl<'a> Sides<'a> {
         }
     }
 
-    // What any two feeds in memory keep, for proofs: their rows make feeds, and no kind has more ids than numbers can
-    // tell apart. It does nothing.
+    // What any two feeds in memory keep, for proofs: their rows make feeds, and no kind has more
+    // ids than numbers can tell apart. It does nothing.
     pub(crate) fn soundness(&self)
         ensures a { IsSoundParts self.now.a.now }
         ensures b { IsSoundParts self.now.b.now }

@@ -54,7 +54,8 @@ fn all_twins(
     Ok(twins)
 }
 
-// The stop of A that a stop of B becomes where this many generations of stops decide, the stop's own first.
+// The stop of A that a stop of B becomes where this many generations of stops decide,
+// the stop's own first.
 fn stop_within(
     sides: &Sides,
     nearby: &Option<Nearby>,
@@ -128,7 +129,8 @@ fn near_stop(
     }
 }
 
-// The stop of A that a stop of B is joined with, where the parent of that stop of B became this one of A.
+// The stop of A that a stop of B is joined with,
+// where the parent of that stop of B became this one of A.
 fn joined_stop(sides: &Sides, stop: StopNo, parent: Option<StopNo>) -> Option<StopNo>
     requires { stop.0 < length sides.now.b.now.stops }
     ensures { (rename : Renaming) (row : StopRowOf)
@@ -149,7 +151,8 @@ fn joined_stop(sides: &Sides, stop: StopNo, parent: Option<StopNo>) -> Option<St
     }
 }
 
-// Whether neither of two stops has a parent, or what the parent of the second became is that of the first.
+// Whether neither of two stops has a parent,
+// or what the parent of the second became is that of the first.
 fn is_same_parent(first: Option<StopNo>, second: Option<StopNo>, became: Option<StopNo>) -> bool
     ensures { result ≡ is_same_parent (option_map (λ n. n.0) first)
         (option_map (λ n. n.0) second) (option_map (λ n. n.0) became) }

@@ -13,7 +13,8 @@ use gtfs_rows::{AgencyNo, RouteNo, ServiceNo, StopNo, TripNo};
 use std::alloc::Global;
 use std::marker::Model;
 
-// For each row of B, by its number, its twin: the row of A that it is joined with, or the stop of A that it is near.
+// For each row of B, by its number, its twin:
+// the row of A that it is joined with, or the stop of A that it is near.
 pub(crate) struct Twins {
     agencies: Vec<Option<AgencyNo>>,
     stops: Vec<Option<StopNo>>,

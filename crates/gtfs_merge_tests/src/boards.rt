@@ -1,5 +1,6 @@
-//! The boards of a merged feed are those of both feeds: under the new names, in one order, those of joined trips once. With
-//! a cutoff they are those of the first feed before that service day, and of the second one from it on.
+//! The boards of a merged feed are those of both feeds: under the new names, in one order, those
+//! of joined trips once. With a cutoff they are those of the first feed before that service day,
+//! and of the second one from it on.
 
 use crate::assertions::assert_is;
 use crate::cases::{AT_TEN, Asked, PLAIN, cutoff_of, merged_by};
@@ -28,7 +29,8 @@ const ALWAYS: Span = Span {
 // No board of these tests has more departures.
 const MOST: u64 = 100_000;
 
-// Where a departure stands on a board of the merged feed. The numbers of trips follow the bytes of their ids.
+// Where a departure stands on a board of the merged feed.
+// The numbers of trips follow the bytes of their ids.
 #[derive(Clone, Copy, Debug, PartialEq, Eq, PartialOrd, Ord)]
 struct Rank {
     instant: i64,
@@ -84,7 +86,8 @@ impl Fixture {
         }
     }
 
-    // The board of every stop of the merged feed is what both feeds list. How many departures there were.
+    // The board of every stop of the merged feed is what both feeds list.
+    // How many departures there were.
     fn assert_boards(&self, rt: &impl Abort, alloc: Global) -> Result<usize, Fail> {
         let mut departures = 0usize;
         for number in 0..count_of(&self.merged.feed, Kind::Stop) {
@@ -408,8 +411,8 @@ fn assert_worked(
     Ok(())
 }
 
-// Changes to a made feed, and how many of its stops are near: a platform with another name, a station with another name, another route, other periods, and
-// other exceptions.
+// Changes to a made feed, and how many of its stops are near: a platform with another name, a
+// station with another name, another route, other periods, and other exceptions.
 const CHANGES: [(&[FileText], usize); 6] = [
     (&[], 0),
     (
@@ -451,8 +454,9 @@ Q,Quay,52.5,13.4,,\nP2,Park,52.6,13.5,,P\nP,Pier,52.6,13.5,1,\nP1,Park,52.6,13.5
     ),
 ];
 
-// Changes to a made feed whose stops are near stops: all of them are moved, and both platforms become the first one; or two
-// stops have the names of each other, and a platform is outside the station.
+// Changes to a made feed whose stops are near stops: all of them are moved, and both
+// platforms become the first one; or two stops have the names of each other, and a
+// platform is outside the station.
 const MOVES: [(&[FileText], usize); 2] = [
     (
         &[(
@@ -472,7 +476,8 @@ Q,Road,52.5,13.4,,\nP2,Park,52.6,13.5,,P\nP,Park,52.6,13.5,1,\nP1,Park,52.6,13.5
     ),
 ];
 
-// The merges of a made feed with changes to the made feed of another number, in a zone. How many stops are near in each.
+// The merges of a made feed with changes to the made feed of another number, in a zone.
+// How many stops are near in each.
 fn assert_merges<R: Abort + RandomSource>(
     rt: &R,
     alloc: Global,

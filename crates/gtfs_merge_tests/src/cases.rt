@@ -50,8 +50,8 @@ pub(crate) fn merged_of<R: RandomSource>(
     Ok(merge(alloc, RandomState::new(rt)?, a, b, &options)?)
 }
 
-/// What a merge is asked for: up to how many millionths of a degree stops are near, and the date from which on the second
-/// feed is taken.
+/// What a merge is asked for: up to how many millionths of a degree stops are near, and the date
+/// from which on the second feed is taken.
 #[derive(Clone, Copy)]
 pub(crate) struct Asked {
     pub(crate) near: Option<u32>,

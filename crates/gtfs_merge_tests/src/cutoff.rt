@@ -304,7 +304,8 @@ T1_merged_1,08:00:00,08:00:00,S1,1,,0,0,\nT1_merged_1,08:10:00,08:10:00,S2,2,,0,
     },
 };
 
-// Services are compared once they are trimmed: of two that are left with nothing the rows are the same.
+// Services are compared once they are trimmed:
+// of two that are left with nothing the rows are the same.
 const JOINED: &[Parted] = &[
     MOVED_AND_CUT,
     Parted {

@@ -280,7 +280,8 @@ joined agency 1\njoined stop 1\njoined route 1\njoined service 1\njoined trip 0\
     },
 ];
 
-// A station with a stop, an entrance, a node without a name or a place, and a boarding area of the stop.
+// A station with a stop, an entrance, a node without a name or a place,
+// and a boarding area of the stop.
 const HUB: FileText = (
     "stops.txt",
     "stop_id,stop_name,stop_lat,stop_lon,location_type,parent_station\n\

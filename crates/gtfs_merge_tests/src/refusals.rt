@@ -1,4 +1,5 @@
-//! Feeds that are not merged: zones that differ, files that are too long, and memory that is refused.
+//! Feeds that are not merged:
+//! zones that differ, files that are too long, and memory that is refused.
 
 use crate::assertions::assert_is;
 use crate::cases::{AT_TEN, Asked, PLAIN, assert_gives, options_of};
@@ -13,7 +14,8 @@ use std::process::Abort;
 use std::random::RandomSource;
 use std::test::Fail;
 
-// Why two changes to the small dataset are not merged, lent or given up, and whether their zones differ.
+// Why two changes to the small dataset are not merged, lent or given up,
+// and whether their zones differ.
 fn refused<R: Abort + RandomSource>(
     rt: &R,
     alloc: Global,
@@ -62,9 +64,9 @@ const ON_2_APRIL: Asked = Asked {
     cutoff: Some("20240402"),
 };
 
-// Two feeds, what is asked for, and how long the longest file of their merge is: stops.txt of the small dataset with
-// itself, stop_times.txt with three trips, calendar_dates.txt with twenty days, and stop_times.txt with two trips where
-// those days are cut.
+// Two feeds, what is asked for, and how long the longest file of their merge is: stops.txt of the
+// small dataset with itself, stop_times.txt with three trips, calendar_dates.txt with twenty days,
+// and stop_times.txt with two trips where those days are cut.
 const LONGEST: &[((&[FileText], &[FileText]), Asked, u64)] = &[
     (SMALL_TWICE, PLAIN, 226),
     (THREE_TRIPS, PLAIN, 336),
@@ -158,7 +160,8 @@ fn zones_are_judged_with_a_cutoff(rt: HostRuntime) -> Result<(), Fail> {
     Ok(())
 }
 
-// A merge with all options, asked for once more where memory was refused. `rt try --test --fail-alloc N` refuses it.
+// A merge with all options, asked for once more where memory was refused.
+// `rt try --test --fail-alloc N` refuses it.
 fn merged_at_last<R: Abort + RandomSource>(
     rt: &R,
     alloc: Global,

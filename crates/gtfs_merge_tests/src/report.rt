@@ -15,8 +15,8 @@ pub(crate) const KINDS: [(Kind, &str); 5] = [
     (Kind::Trip, "trip"),
 ];
 
-/// A line for each id that became another, by kind, side and bytes: its side, its kind, the id and the new one. Then a
-/// line for each kind that tells how many ids are joined.
+/// A line for each id that became another, by kind, side and bytes: its side, its kind, the id and
+/// the new one. Then a line for each kind that tells how many ids are joined.
 pub(crate) fn report(alloc: Global, a: &Feed, b: &Feed, names: &Names) -> Result<String, Fail> {
     let mut text = String::new(alloc);
     for (kind, word) in KINDS {

@@ -1,6 +1,7 @@
 //! Transfers: each key once, and that of A where both feeds have it.
 //!
-//! Two transfers of one feed never get one key here, since without near stops two ids of a kind never become one.
+//! Two transfers of one feed never get one key here,
+//! since without near stops two ids of a kind never become one.
 
 use crate::cases::{AT_TEN, Case, assert_cases};
 use gtfs_table::File;

@@ -9,7 +9,8 @@ use std::alloc::Global;
 // How many listed stops a block has; the last one may have fewer.
 pub(crate) const BLOCK: usize = 256;
 
-// What a search asks of stops that are listed one after the other: where they are, and the least of their numbers.
+// What a search asks of stops that are listed one after the other:
+// where they are, and the least of their numbers.
 #[derive(Clone, Copy)]
 pub(crate) struct Block {
     pub area: Area,

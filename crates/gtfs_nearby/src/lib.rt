@@ -1,7 +1,8 @@
 //! Stops of a feed that lie near a stop of another feed.
 //!
-//! [`Nearby`] is made of the stops of one feed. [`Nearby::find`] gives the number of the first of them that is near a stop of
-//! another one: of its type, name and parent, and at most so many millionths of a degree away.
+//! [`Nearby`] is made of the stops of one feed. [`Nearby::find`] gives the number of the first
+//! of them that is near a stop of another one: of its type, name and parent, and at most so
+//! many millionths of a degree away.
 //!
 //! When stops are near stands in `specs/Near.antt`.
 #![tactic(auto)]

@@ -12,7 +12,8 @@ use std::cmp::Ordering;
 #[derive(Clone, Copy)]
 pub(crate) struct Listed<'a> {
     pub place: Place<'a>,
-    // Rises along a curve on which neighbours mostly stand together. It makes searches fast, and no answer depends on it.
+    // Rises along a curve on which neighbours mostly stand together.
+    // It makes searches fast, and no answer depends on it.
     pub order: u64,
     pub number: usize,
 }
@@ -59,7 +60,8 @@ fn order(a: &Listed<'_>, b: &Listed<'_>) -> Ordering
     group_order(&a.place, &b.place).then(a.order.cmp(&b.order))
 }
 
-// The bits of a latitude and a longitude, one after the other. The lowest seven of each are left out, about a centimetre.
+// The bits of a latitude and a longitude, one after the other.
+// The lowest seven of each are left out, about a centimetre.
 fn curve(lat: u64, lon: u64) -> u64 {
     (spread(lat >> 7) << 1) | spread(lon >> 7)
 }

@@ -14,8 +14,8 @@ use std::marker::Model;
 
 /// The stops of a feed, by what near stops have in common and by their places.
 ///
-/// However many stops share a name, a search looks at few of them: they stand in blocks along a curve, and it passes over most
-/// blocks or takes them whole.
+/// However many stops share a name, a search looks at few of them: they stand in blocks along a
+/// curve, and it passes over most blocks or takes them whole.
 #[derive(Drop)]
 pub struct Nearby<'a> {
     stops: &'a [Stop],
@@ -36,8 +36,8 @@ impl<'a> Model for Nearby<'a> {
 }
 
 impl<'a> Nearby<'a> {
-    /// A search among these stops, of which those up to `near` millionths of a degree away are near. It borrows them, and
-    /// takes 72 bytes for each and 40 for each 256.
+    /// A search among these stops, of which those up to `near` millionths of a degree away are
+    /// near. It borrows them, and takes 72 bytes for each and 40 for each 256.
     ///
     /// # Errors
     /// `OutOfMemory` where memory ran out.
@@ -54,12 +54,14 @@ impl<'a> Nearby<'a> {
         })
     }
 
-    /// The least number of a stop that is near the stop `row` of another feed, None exactly where none is near.
+    /// The least number of a stop that is near the stop `row` of another feed,
+    /// None exactly where none is near.
     ///
-    /// Near stops have one type and one name, and neither their latitudes nor their longitudes differ by more than was said
-    /// (GTFS Schedule Reference, `stops.txt`). A stop without a name or a coordinate is near none. Where `row` has a parent,
-    /// `parent` is the stop here that this parent became, and a near stop has it as its own; if it became none, no stop is
-    /// near. Where `row` has no parent, a near stop has none.
+    /// Near stops have one type and one name, and neither their latitudes nor their longitudes
+    /// differ by more than was said (GTFS Schedule Reference, `stops.txt`). A stop without a name
+    /// or a coordinate is near none. Where `row` has a parent, `parent` is the stop here that this
+    /// parent became, and a near stop has it as its own; if it became none, no stop is near. Where
+    /// `row` has no parent, a near stop has none.
     pub fn find(&self, row: &Stop, parent: Option<StopNo>) -> Option<StopNo>
         ensures { option_map (λ n. n.0) result
             ≡ position (is_near_row self.now.near row.now (option_map (λ n. n.0) parent))

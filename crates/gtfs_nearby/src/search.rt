@@ -7,7 +7,8 @@ use crate::block::{BLOCK, Block};
 use crate::listed::Listed;
 use crate::run::Run;
 
-// The least number of a stop of the run inside the area, if it is below this number; else this number.
+// The least number of a stop of the run inside the area, if it is below this number;
+// else this number.
 pub(crate) fn least_of_run(
     listed: &[Listed<'_>],
     blocks: &[Block],

@@ -18,8 +18,8 @@ const LAT: i64 = 52_500_000_000;
 
 const LON: i64 = 13_400_000_000;
 
-// A coordinate of stops: what it is at least, how many units a throw of dice adds at most, and what each stop before, and each
-// second one, adds.
+// A coordinate of stops: what it is at least, how many units a throw of dice adds at most, and what
+// each stop before, and each second one, adds.
 #[derive(Clone, Copy)]
 struct Line {
     from: i64,
@@ -232,7 +232,8 @@ fn is_close(near: u32, coord: Option<Coord>, other: Option<Coord>) -> bool {
     }
 }
 
-// Stops that lie so. With several kinds they differ in name, type and parent, and some lack a name or a coordinate.
+// Stops that lie so. With several kinds they differ in name, type and parent,
+// and some lack a name or a coordinate.
 fn made(
     alloc: Global,
     dice: &mut Dice,

@@ -17,7 +17,8 @@ const MILL: Spot = Spot {
     lon: Some(13_400_000_000),
 };
 
-// How far a stop of B lies to the north and to the east in units, and whether it is near where so many millionths are.
+// How far a stop of B lies to the north and to the east in units,
+// and whether it is near where so many millionths are.
 const MOVED: &[(&str, u32, i64, i64, bool)] = &[
     ("the same place", 0, 0, 0, true),
     ("half a millionth north, none allowed", 0, 500, 0, false),
@@ -53,7 +54,8 @@ fn stops_are_near_up_to_a_distance(rt: HostRuntime) -> Result<(), Fail> {
     Ok(())
 }
 
-// A stop of A and one of B at one place, what the parent of B's became in A, and whether they are near.
+// A stop of A and one of B at one place, what the parent of B's became in A,
+// and whether they are near.
 const ALIKE: &[(&str, Spot, Spot, Option<usize>, bool)] = &[
     ("equal", MILL, MILL, None, true),
     (

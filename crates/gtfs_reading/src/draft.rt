@@ -12,8 +12,9 @@ use std::alloc::Global;
 use std::hash::RandomState;
 use std::marker::Model;
 
-/// The stop times of a dataset before they are those of a feed. It lends nothing of the tables, so that they can be let go
-/// before rows are copied that have to be. It is seen as the lists that it becomes.
+/// The stop times of a dataset before they are those of a feed. It lends nothing of the
+/// tables, so that they can be let go before rows are copied that have to be. It is
+/// seen as the lists that it becomes.
 #[derive(Drop)]
 pub struct StopTimesDraft {
     stop_times: KeptStopTimes,
@@ -35,12 +36,14 @@ impl Model for StopTimesDraft {
 }
 
 impl StopTimesDraft {
-    /// The stop times of a dataset that passed, which has this many trips (GTFS Schedule Reference, `stop_times.txt`). It
-    /// takes over what was read when the dataset was checked. Only headsigns are read of the tables here. They are hashed
-    /// by the random state, on which the lists do not depend.
+    /// The stop times of a dataset that passed, which has this many trips (GTFS Schedule
+    /// Reference, `stop_times.txt`). It takes over what was read when the dataset was checked.
+    /// Only headsigns are read of the tables here. They are hashed by the random state, on
+    /// which the lists do not depend.
     ///
     /// # Errors
-    /// `OutOfMemory` where memory is refused, and where there are more than 4,294,967,295 different headsigns.
+    /// `OutOfMemory` where memory is refused,
+    /// and where there are more than 4,294,967,295 different headsigns.
     pub fn new(
         alloc: Global,
         random: RandomState,
@@ -67,8 +70,8 @@ impl StopTimesDraft {
         })
     }
 
-    /// The stop times of a feed. Where the rows of each trip follow each other in the file, they stay where they are. Else
-    /// they are copied.
+    /// The stop times of a feed. Where the rows of each trip follow each other in the file, they
+    /// stay where they are. Else they are copied.
     ///
     /// # Errors
     /// `OutOfMemory` where memory is refused.

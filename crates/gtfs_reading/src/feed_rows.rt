@@ -26,10 +26,11 @@ use gtfs_rules::Passed;
 use gtfs_table::Tables;
 use std::alloc::Global;
 
-/// All rows of a feed but its stop times: the lists of a [`Parts`](gtfs_rows::Parts) that have the same names.
+/// All rows of a feed but its stop times:
+/// the lists of a [`Parts`](gtfs_rows::Parts) that have the same names.
 ///
-/// Each list stands in the order of its keys, ids by their bytes, and a row names others by their numbers in these
-/// lists (GTFS Schedule Reference, "Dataset Files").
+/// Each list stands in the order of its keys, ids by their bytes, and a row names others by their
+/// numbers in these lists (GTFS Schedule Reference, "Dataset Files").
 pub struct FeedRows {
     pub agencies: List<Agency>,
     pub stops: List<Stop>,
@@ -60,8 +61,9 @@ impl Drop for FeedRows {
 }
 
 impl FeedRows {
-    /// The rows of a dataset that passed. An id is looked up once and is a number from then on; a route that names no
-    /// agency has the only one; an empty choice is what it means, and a control character in a text is a space.
+    /// The rows of a dataset that passed. An id is looked up once and is a number from then on; a
+    /// route that names no agency has the only one; an empty choice is what it means, and a control
+    /// character in a text is a space.
     ///
     /// # Errors
     /// `OutOfMemory` where a list or a text cannot grow.
@@ -88,7 +90,8 @@ impl FeedRows {
         }
     }
 
-    // Reads the lists of tables by their ids. They have one owner, whichever of them finds no memory.
+    // Reads the lists of tables by their ids.
+    // They have one owner, whichever of them finds no memory.
     fn read(
         &mut self,
         alloc: Global,

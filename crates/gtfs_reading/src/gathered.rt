@@ -121,7 +121,8 @@ pub(crate) fn rows_with(
     Ok(rows)
 }
 
-// The headsign of a stop time, which stands under this column. Where it has none, its row is not looked up.
+// The headsign of a stop time, which stands under this column.
+// Where it has none, its row is not looked up.
 fn text<'t>(tables: &'t Tables, stop_time: &StopTime, column: Option<usize>) -> &'t str
     requires { stop_time.now.has_headsign ≡ not (is_empty (field_under (record_at
         (records_in tables.now file.StopTimes) stop_time.now.row) column)) }

@@ -21,7 +21,8 @@ use std::marker::Model;
 pub(crate) struct Headsigns {
     alloc: Global,
     texts: IndexSet<String, RandomState>,
-    // The index of the last one that was asked for: the stop times of a trip mostly have one headsign.
+    // The index of the last one that was asked for:
+    // the stop times of a trip mostly have one headsign.
     last: usize,
 }
 

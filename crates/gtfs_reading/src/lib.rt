@@ -1,9 +1,10 @@
 //! The typed rows of a feed, of tables that passed the validator.
 //!
-//! [`FeedRows::new`] reads all rows but the stop times of a [`Passed`](gtfs_rules::Passed). [`StopTimes::new`] makes the
-//! lists of stop times of it, whose fields were read when the tables were checked, but for headsigns.
-//! [`FeedRows::with_stop_times`] makes [`Parts`](gtfs_rows::Parts) of both. A [`StopTimesDraft`] makes the same lists, and
-//! needs the tables no more: they can be let go before its lists are made.
+//! [`FeedRows::new`] reads all rows but the stop times of a [`Passed`](gtfs_rules::Passed).
+//! [`StopTimes::new`] makes the lists of stop times of it, whose fields were read when the tables
+//! were checked, but for headsigns. [`FeedRows::with_stop_times`] makes [`Parts`](gtfs_rows::Parts)
+//! of both. A [`StopTimesDraft`] makes the same lists, and needs the tables no more: they can be
+//! let go before its lists are made.
 //!
 //! ```text
 //! let rows = FeedRows::new(alloc, passed)?;
@@ -12,19 +13,20 @@
 //! rows.with_stop_times(stop_times, headsigns)
 //! ```
 //!
-//! Each list stands in the order of its keys: ids by their bytes, transfers by the six parts of their keys, frequencies
-//! by trip and start. An id is looked up once and is its number in that order from then on; no row is looked for in a
-//! list from its beginning.
+//! Each list stands in the order of its keys: ids by their bytes, transfers by the six parts of
+//! their keys, frequencies by trip and start. An id is looked up once and is its number in that
+//! order from then on; no row is looked for in a list from its beginning.
 //!
-//! Each file has a module, with its columns found once: `agencies`, `stops`, `routes`, `trips`, `transfers`,
-//! `frequencies`, and `calendar` and `dates`, of which `services` are made. The ids of files are
-//! [`NetworkIds`](gtfs_columns::NetworkIds), and `service_ids` has those of services, which come of two files. `texts`,
-//! `numbers`, `choices` and `references` read a field. `gathered` has the lists of stop times while they are made, and
-//! `headsigns` the headsigns by number.
+//! Each file has a module, with its columns found once: `agencies`, `stops`, `routes`, `trips`,
+//! `transfers`, `frequencies`, and `calendar` and `dates`, of which `services` are made. The ids of
+//! files are [`NetworkIds`](gtfs_columns::NetworkIds), and `service_ids` has those of services,
+//! which come of two files. `texts`, `numbers`, `choices` and `references` read a field. `gathered`
+//! has the lists of stop times while they are made, and `headsigns` the headsigns by number.
 //!
-//! What the rows are is said in `gtfs_rows`: `specs/Reading.antt` there has the content of a dataset. `specs/FeedRows.antt`
-//! here says that the lists are that content, `specs/Named.antt` what a row with numbers stands for, and
-//! `specs/StopTimeLists.antt` what the lists of stop times are.
+//! What the rows are is said in `gtfs_rows`: `specs/Reading.antt` there has the content of a
+//! dataset. `specs/FeedRows.antt` here says that the lists are that content,
+//! `specs/Named.antt` what a row with numbers stands for, and `specs/StopTimeLists.antt`
+//! what the lists of stop times are.
 #![tactic(auto)]
 
 mod agencies;

@@ -117,7 +117,8 @@ impl<'a> RouteFile<'a> {
         Ok(())
     }
 
-    // The route of a row. Where it names no agency its agency is the first one, which is then the only one.
+    // The route of a row. Where it names no agency its agency is the first one,
+    // which is then the only one.
     fn route(
         &self,
         alloc: Global,

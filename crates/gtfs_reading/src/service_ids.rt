@@ -1,4 +1,5 @@
-//! The ids of services (GTFS Schedule Reference, `service_id` of `calendar.txt` and `calendar_dates.txt`).
+//! The ids of services (GTFS Schedule Reference,
+//! `service_id` of `calendar.txt` and `calendar_dates.txt`).
 
 ghost use Rattle.std.specs.Prelude.{◌≡◌, ◌++◌, ◌<◌, [], codes, length, map, slice_index_or, IfOk, IfSome, OnOk};
 ghost use Rattle.gtfs_columns.specs.Problems.{Passes};

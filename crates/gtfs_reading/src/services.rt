@@ -1,4 +1,5 @@
-//! The services, with their rows of calendar.txt and calendar_dates.txt (GTFS Schedule Reference, both files).
+//! The services, with their rows of calendar.txt and calendar_dates.txt (GTFS Schedule Reference,
+//! both files).
 
 ghost use Rattle.std.specs.Prelude.{◌≡◌, ℕ, List, [], IfOk, OnOk, codes, map, option_map};
 ghost use Rattle.gtfs_columns.specs.Calendars.{first_service_row, week_in};

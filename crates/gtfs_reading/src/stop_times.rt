@@ -15,19 +15,21 @@ use std::hash::RandomState;
 pub struct StopTimes {
     /// The stop times of all trips, also of those that have none.
     pub stop_times: StopTimesByTrip,
-    /// The headsigns that stop times name by their numbers, each once, in the order in which the stop times first name them,
-    /// trip after trip. A control character is a space.
+    /// The headsigns that stop times name by their numbers, each once, in the order in which the
+    /// stop times first name them, trip after trip. A control character is a space.
     pub headsigns: List<Text>,
 }
 
 impl StopTimes {
     /// The stop times of a dataset that passed, which has this many trips.
     ///
-    /// Each field was read when the dataset was checked. Only headsigns are read of the tables here, and no row where
-    /// the file has no such column. Headsigns are hashed by the random state, on which the lists do not depend.
+    /// Each field was read when the dataset was checked. Only headsigns are read of the tables
+    /// here, and no row where the file has no such column. Headsigns are hashed by the random
+    /// state, on which the lists do not depend.
     ///
     /// # Errors
-    /// `OutOfMemory` where memory is refused, and where there are more than 4,294,967,295 different headsigns.
+    /// `OutOfMemory` where memory is refused,
+    /// and where there are more than 4,294,967,295 different headsigns.
     pub fn new(
         alloc: Global,
         random: RandomState,

@@ -30,7 +30,8 @@ pub(crate) fn read_id(
     Ok(())
 }
 
-// Reads a text of a row, a space in place of each control character; the empty text where there is none.
+// Reads a text of a row, a space in place of each control character;
+// the empty text where there is none.
 pub(crate) fn read_text(
     alloc: Global,
     fields: &Record<'_>,

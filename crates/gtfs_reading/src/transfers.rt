@@ -82,7 +82,8 @@ fn push_in_file_order(
     Ok(())
 }
 
-// The numbers of what a transfer names. They are in the order of the ids, and a part that is not there is the least.
+// The numbers of what a transfer names.
+// They are in the order of the ids, and a part that is not there is the least.
 fn key(transfer: &Transfer) -> [Option<usize>; 6]
     ensures { result ≡ transfer_numbers transfer.now }
 {

@@ -1,4 +1,5 @@
-//! The rows of trips.txt (GTFS Schedule Reference, `trips.txt`), without their stop times and frequencies.
+//! The rows of trips.txt (GTFS Schedule Reference, `trips.txt`),
+//! without their stop times and frequencies.
 
 ghost use Rattle.std.specs.Prelude.{◌≡◌, ℕ, [], IfOk, OnOk, codes, map, true};
 ghost use Rattle.gtfs_columns.specs.Problems.{Passes};
@@ -120,7 +121,8 @@ impl<'a> TripFile<'a> {
         Ok(())
     }
 
-    // The trip of a row. Its route is looked up among all routes, and its service among all services.
+    // The trip of a row. Its route is looked up among all routes,
+    // and its service among all services.
     fn trip(
         &self,
         alloc: Global,

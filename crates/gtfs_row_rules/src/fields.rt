@@ -15,11 +15,12 @@ use gtfs_field::OutOfMemory;
 use gtfs_table::{File, Record, Tables};
 use std::alloc::Global;
 
-/// Reports what is wrong with single fields and with the lengths of rows, in one pass over each file but for
-/// `stop_times.txt` (E06, E07, E08, E20, W01, W02, W05).
+/// Reports what is wrong with single fields and with the lengths of rows, in one pass over each
+/// file but for `stop_times.txt` (E06, E07, E08, E20, W01, W02, W05).
 ///
 /// # Errors
-/// `OutOfMemory` where the problems that were found cannot grow, or there is no room for the columns of a file.
+/// `OutOfMemory` where the problems that were found cannot grow,
+/// or there is no room for the columns of a file.
 pub fn report_fields<'a>(
     alloc: Global,
     tables: &'a Tables,

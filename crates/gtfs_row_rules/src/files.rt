@@ -12,7 +12,8 @@ use gtfs_columns::{Code, FileName, Found, Problem};
 use gtfs_field::OutOfMemory;
 use gtfs_table::{File, State, Tables};
 
-/// Reports files that are missing (E01), not UTF-8 (E02) or empty (E05), and what else the folder holds (W03).
+/// Reports files that are missing (E01), not UTF-8 (E02) or empty (E05),
+/// and what else the folder holds (W03).
 ///
 /// # Errors
 /// `OutOfMemory` where the problems that were found cannot grow.
@@ -67,7 +68,8 @@ fn is_missing(tables: &Tables, file: File) -> bool
     }
 }
 
-// Whether a file counts as absent: one that a dataset need not have does where it holds no record, too.
+// Whether a file counts as absent:
+// one that a dataset need not have does where it holds no record, too.
 fn is_absent(tables: &Tables, file: File) -> bool
     ensures { result ≡ is_absent tables.now file }
 {

@@ -20,8 +20,8 @@ use gtfs_columns::{
 use gtfs_field::OutOfMemory;
 use gtfs_table::{File, Tables};
 
-/// Reports what is wrong with the headers of the nine files: a required column that is missing (E03), a kept column
-/// that is named more than once (E04), and a column that is not kept (W04).
+/// Reports what is wrong with the headers of the nine files: a required column that is missing
+/// (E03), a kept column that is named more than once (E04), and a column that is not kept (W04).
 ///
 /// # Errors
 /// `OutOfMemory` where the problems that were found cannot grow.

@@ -98,8 +98,9 @@ impl Number {
     }
 }
 
-// Keys of an id and a number. In calendar_dates.txt they are the id of a service and a date, in frequencies.txt the id
-// of a trip and the start of a period. The number comes first: it mostly tells two keys apart without a look at texts.
+// Keys of an id and a number. In calendar_dates.txt they are the id of a service and a date, in
+// frequencies.txt the id of a trip and the start of a period. The number comes first: it mostly
+// tells two keys apart without a look at texts.
 #[derive(Clone, Copy)]
 struct NumberedKeys<'a> {
     tables: &'a Tables,
@@ -177,11 +178,12 @@ fn end_id(text: &str) -> Option<&str>
     }
 }
 
-/// Reports each row of `calendar_dates.txt`, `frequencies.txt` and `transfers.txt` whose key an earlier row of the
-/// file has (E09).
+/// Reports each row of `calendar_dates.txt`, `frequencies.txt` and `transfers.txt` whose key an
+/// earlier row of the file has (E09).
 ///
 /// # Errors
-/// `OutOfMemory` where the problems that were found cannot grow, or there is no room for the keys of a file.
+/// `OutOfMemory` where the problems that were found cannot grow,
+/// or there is no room for the keys of a file.
 pub fn report_composite_keys<'a>(
     alloc: Global,
     tables: &'a Tables,

@@ -55,7 +55,8 @@ impl Rule for UnknownService<'_> {
     }
 }
 
-/// Reports each id that names no row, but for those of `stop_times.txt` (E10). The ids are those of these tables.
+/// Reports each id that names no row, but for those of `stop_times.txt` (E10).
+/// The ids are those of these tables.
 ///
 /// # Errors
 /// `OutOfMemory` where the problems that were found cannot grow.

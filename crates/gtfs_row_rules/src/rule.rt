@@ -16,7 +16,8 @@ use gtfs_table::{File, Record, Tables};
 pub(crate) trait Rule {
     ghost breaks: { Self → ℕ → List (List ℕ) → Bool };
 
-    // Whether a row breaks the rule, which stays the same. A rule may remember where it looked last.
+    // Whether a row breaks the rule, which stays the same.
+    // A rule may remember where it looked last.
     fn breaks(&mut self, row: usize, record: &Record<'_>) -> bool
         ensures answer { result ≡ breaks self.old row «record».now }
         ensures same { breaks self.new ≡ breaks self.old };

@@ -35,8 +35,8 @@ impl Rule for RepeatedId<'_> {
     }
 }
 
-/// Reports each row of the files whose key is one id that has the id of an earlier row (E09). The ids are those of
-/// these tables.
+/// Reports each row of the files whose key is one id that has the id of an earlier row (E09). The
+/// ids are those of these tables.
 ///
 /// # Errors
 /// `OutOfMemory` where the problems that were found cannot grow.

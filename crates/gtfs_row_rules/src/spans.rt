@@ -29,8 +29,8 @@ impl Rule for EndsBeforeStart {
     }
 }
 
-// A row of frequencies.txt is a frequency, and its period the span of seconds from its start to its end. This one ends
-// at its start or before.
+// A row of frequencies.txt is a frequency, and its period the span of seconds from its start to its
+// end. This one ends at its start or before.
 #[derive(Clone, Copy)]
 struct EndsAtStart {
     start: Option<usize>,
@@ -48,8 +48,8 @@ impl Rule for EndsAtStart {
     }
 }
 
-/// Reports rows of `calendar.txt` that end before they start (E14), and frequencies that do not end after their
-/// start (E18).
+/// Reports rows of `calendar.txt` that end before they start (E14),
+/// and frequencies that do not end after their start (E18).
 ///
 /// # Errors
 /// `OutOfMemory` where the problems that were found cannot grow.

@@ -85,7 +85,8 @@ fn is_other_kind(own: Option<i64>, parent: i64) -> bool
     }
 }
 
-// The parent of a stop, an entrance and a node is a station, that of a boarding area is a stop or platform.
+// The parent of a stop, an entrance and a node is a station,
+// that of a boarding area is a stop or platform.
 fn is_other_parent(own: i64, parent: i64) -> bool
     ensures { result ≡ is_other_parent own parent }
 {
@@ -93,8 +94,8 @@ fn is_other_parent(own: i64, parent: i64) -> bool
         || (is_one_of(&[4], own) && !is_one_of(&[0], parent))
 }
 
-/// Reports each row that names a stop of a kind that it may not name, but for rows of `stop_times.txt` (E11). The ids
-/// of stops and their location types are those of these tables.
+/// Reports each row that names a stop of a kind that it may not name, but for rows of
+/// `stop_times.txt` (E11). The ids of stops and their location types are those of these tables.
 ///
 /// # Errors
 /// `OutOfMemory` where the problems that were found cannot grow.

@@ -116,7 +116,8 @@ impl Direction {
     }
 }
 
-/// Whether the vehicle of a trip takes wheelchairs (GTFS Schedule Reference, `wheelchair_accessible`).
+/// Whether the vehicle of a trip takes wheelchairs (GTFS Schedule Reference,
+/// `wheelchair_accessible`).
 #[derive(Clone, Copy, Debug, PartialEq, Eq)]
 pub enum WheelchairAccessible {
     /// It is not known: 0.

@@ -3,8 +3,9 @@ use gtfs_field::Clock;
 
 /// A row of `frequencies.txt`, without its trip (GTFS Schedule Reference, `frequencies.txt`).
 ///
-/// Its *period* is the time from its start to its end, in which runs leave at each headway. So names and texts
-/// speak of periods where the seconds of such a row count, as in the problems *period empty* and *periods overlap*.
+/// Its *period* is the time from its start to its end, in which runs leave at each headway. So
+/// names and texts speak of periods where the seconds of such a row count, as in the problems
+/// *period empty* and *periods overlap*.
 #[derive(Clone, Copy, Debug, PartialEq, Eq)]
 pub struct Frequency {
     /// When the first run of the period leaves the trip's first stop.

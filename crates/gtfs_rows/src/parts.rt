@@ -8,10 +8,11 @@ use crate::trip::Trip;
 use gtfs_field::{List, Text};
 use gtfs_stop_times::StopTimesByTrip;
 
-/// All rows of a feed, each list in the order of its keys: ids by their bytes, transfers by the six parts of their key.
+/// All rows of a feed, each list in the order of its keys:
+/// ids by their bytes, transfers by the six parts of their key.
 ///
-/// The stop times of all trips are seen as one list, trip after trip and in each trip by sequence. So are the frequencies,
-/// in each trip by start.
+/// The stop times of all trips are seen as one list, trip after trip and in each trip by sequence.
+/// So are the frequencies, in each trip by start.
 pub struct Parts {
     pub agencies: List<Agency>,
     pub stops: List<Stop>,

@@ -7,8 +7,8 @@ use gtfs_field::{Colour, OutOfMemory, Text};
 use std::alloc::Global;
 use std::marker::Model;
 
-/// The kind of transport of a route: a basic type, 0 to 7, 11 or 12, or an extended one, 100 to 1799
-/// (GTFS Schedule Reference, `route_type`).
+/// The kind of transport of a route: a basic type, 0 to 7, 11 or 12, or an extended one, 100 to
+/// 1799 (GTFS Schedule Reference, `route_type`).
 #[derive(Clone, Copy, Debug, PartialEq, Eq)]
 pub struct RouteType {
     number: u32,

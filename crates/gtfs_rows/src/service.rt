@@ -17,7 +17,8 @@ pub struct ServiceRow {
 }
 
 impl ServiceRow {
-    /// What stays of the service on one side of a service day, under the same id ([`Service::trim`]).
+    /// What stays of the service on one side of a service day,
+    /// under the same id ([`Service::trim`]).
     ///
     /// # Errors
     /// `OutOfMemory` where the id or the exceptions cannot be copied.

@@ -6,7 +6,8 @@ use crate::numbers::{RouteNo, ServiceNo};
 use gtfs_field::{OutOfMemory, Text};
 use std::alloc::Global;
 
-/// A row of `trips.txt` (GTFS Schedule Reference, `trips.txt`). Its stop times and frequencies stand in lists of the feed.
+/// A row of `trips.txt` (GTFS Schedule Reference, `trips.txt`).
+/// Its stop times and frequencies stand in lists of the feed.
 #[derive(Drop)]
 pub struct Trip {
     pub route_id: RouteNo,

@@ -21,12 +21,13 @@ use std::alloc::Global;
 
 /// Checks the tables of a dataset: the report lists each of its problems once, in order.
 ///
-/// The rules rest on the GTFS Schedule Reference, each on the section of its file; the codes and the order are this
-/// toolkit's. The time grows as n log n for every dataset. The tables are lent and not changed.
+/// The rules rest on the GTFS Schedule Reference, each on the section of its file; the
+/// codes and the order are this toolkit's. The time grows as n log n for every dataset. The
+/// tables are lent and not changed.
 ///
 /// # Errors
-/// `OutOfMemory` where memory ran out, and where stop_times.txt has more than 4,294,967,295 rows, or there are more trips
-/// than that.
+/// `OutOfMemory` where memory ran out, and where stop_times.txt has more than 4,294,967,295 rows,
+/// or there are more trips than that.
 pub fn check<'a>(alloc: Global, tables: &'a Tables) -> Result<Report<'a>, OutOfMemory>
     ensures dataset { IfOk result (λ report. report.dataset ≡ tables.now) }
     ensures report { IfOk result (λ report. IsReport tables.now report.problems) }
@@ -37,7 +38,8 @@ pub fn check<'a>(alloc: Global, tables: &'a Tables) -> Result<Report<'a>, OutOfM
     Ok(Report::new(tables, ids, found, stop_times))
 }
 
-// All that is wrong, given the ids of the feed. This and the parts that judge stop times hand these on.
+// All that is wrong, given the ids of the feed.
+// This and the parts that judge stop times hand these on.
 fn report_all<'a>(
     alloc: Global,
     tables: &'a Tables,

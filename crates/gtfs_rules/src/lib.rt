@@ -1,7 +1,9 @@
-//! The validator of a GTFS Schedule dataset: what is wrong with its tables, each problem once and in one order.
+//! The validator of a GTFS Schedule dataset:
+//! what is wrong with its tables, each problem once and in one order.
 //!
-//! - A [`Problem`] is a file, a row, a [`Code`] and a column. Row 0 stands for the file as a whole, row 1 is the
-//!   header, and an empty column is none. A [`FileName`] is one of the nine kept files or another name in the folder.
+//! - A [`Problem`] is a file, a row, a [`Code`] and a column. Row 0 stands for the file as a whole,
+//!   row 1 is the header, and an empty column is none. A [`FileName`] is one of the nine kept files
+//!   or another name in the folder.
 //! - [`check`] finds every problem of a dataset's tables, in time that grows as n log n.
 //! - A [`Report`] holds the problems of a dataset, strictly ascending: exactly those that it has.
 //!   [`Report::passed`] gives the tables back as a [`Passed`] exactly where no problem is an error.
@@ -19,7 +21,8 @@
 //! };
 //! ```
 //!
-//! The words of the contracts stand on one page, `specs/Words.antt`, which names where each is defined.
+//! The words of the contracts stand on one page, `specs/Words.antt`,
+//! which names where each is defined.
 #![tactic(auto)]
 
 mod checks;

@@ -8,7 +8,8 @@ use gtfs_table::Tables;
 use gtfs_trip_rules::KeptStopTimes;
 use std::marker::Model;
 
-/// Tables that were checked and have no error. Nothing but [`Report::passed`](crate::Report::passed) makes one.
+/// Tables that were checked and have no error. Nothing but
+/// [`Report::passed`](crate::Report::passed) makes one.
 #[derive(Drop)]
 pub struct Passed<'a> {
     tables: &'a Tables,
@@ -50,18 +51,18 @@ impl<'a> Passed<'a> {
         self.tables
     }
 
-    /// The ids of the dataset, as the check found them: each has a number, from 0 in the order of the ids' bytes, and
-    /// its first row (GTFS Schedule Reference, fields of type "ID").
+    /// The ids of the dataset, as the check found them: each has a number, from 0 in the order of
+    /// the ids' bytes, and its first row (GTFS Schedule Reference, fields of type "ID").
     pub fn ids(&self) -> &FeedIds<'a>
         ensures { AreIdsOf self.now result.now }
     {
         &self.ids
     }
 
-    /// The stop times of the dataset, one for each row of `stop_times.txt`: by the numbers of their trips, and in a
-    /// trip by their sequence. Each was read once, when the tables were checked, and says what its row says (GTFS
-    /// Schedule Reference, `stop_times.txt`). Trips and stops have the numbers of their ids: from 0, in the order of
-    /// the ids' bytes.
+    /// The stop times of the dataset, one for each row of `stop_times.txt`: by the numbers of their
+    /// trips, and in a trip by their sequence. Each was read once, when the tables were checked,
+    /// and says what its row says (GTFS Schedule Reference, `stop_times.txt`). Trips and stops have
+    /// the numbers of their ids: from 0, in the order of the ids' bytes.
     pub fn stop_times(&self) -> &KeptStopTimes
         ensures { AreStopTimes self.now result.now }
     {

@@ -38,8 +38,8 @@ impl<'a> Model for Report<'a> {
 }
 
 impl<'a> Report<'a> {
-    // The report of the problems that were found, which are all that the tables have, the ids by which
-    // they were found, and the stop times that were read.
+    // The report of the problems that were found, which are all that the tables have, the ids by
+    // which they were found, and the stop times that were read.
     pub(crate) fn new(
         tables: &'a Tables,
         ids: FeedIds<'a>,
@@ -68,8 +68,8 @@ impl<'a> Report<'a> {
         self.problems.as_slice()
     }
 
-    /// The tables as a feed that passes, exactly where no problem is an error; else the report again.
-    /// It takes no memory.
+    /// The tables as a feed that passes, exactly where no problem is an error;
+    /// else the report again. It takes no memory.
     pub fn passed(self) -> Result<Passed<'a>, Report<'a>>
         ensures passed { IfOk result (λ passed. passed ≡ self.entry.dataset) }
         ensures passes { IfOk result (λ passed. Passes self.entry.dataset) }

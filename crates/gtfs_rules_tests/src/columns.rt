@@ -1,4 +1,5 @@
-//! The columns' calls on their happy paths: what a value is, what is wrong with a text, and where an id stands.
+//! The columns' calls on their happy paths:
+//! what a value is, what is wrong with a text, and where an id stands.
 
 use crate::assertions::{assert_case, assert_is};
 use crate::feed::{FREQUENCIES, FileLines, put_files, small_feed};

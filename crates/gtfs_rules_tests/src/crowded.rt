@@ -1,4 +1,5 @@
-//! A feed in which most rules are broken somewhere, some of them more than once and beside one another.
+//! A feed in which most rules are broken somewhere,
+//! some of them more than once and beside one another.
 
 use crate::feed::no_files;
 use crate::reports::assert_same;

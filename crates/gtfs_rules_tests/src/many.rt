@@ -34,8 +34,8 @@ fn stop_times_text(alloc: Global) -> Result<String, OutOfMemory> {
     Ok(text)
 }
 
-// The problem at an index of the report: first that each trip has fewer than two rows, then that the stop of each stop
-// time is not there.
+// The problem at an index of the report: first that each trip has fewer than two rows, then that
+// the stop of each stop time is not there.
 fn wanted(n: usize) -> Problem<'static> {
     let row = n % COUNT + 2;
     if n < COUNT {

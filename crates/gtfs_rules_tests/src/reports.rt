@@ -50,7 +50,8 @@ fn slow_lines(alloc: Global, tables: &Tables) -> Result<String, Fail> {
     lines_of(alloc, &problems)
 }
 
-/// The tables of the folder have these problems, as the check finds them and as the slow check does.
+/// The tables of the folder have these problems,
+/// as the check finds them and as the slow check does.
 pub(crate) fn assert_report(
     rt: &impl Abort,
     alloc: Global,

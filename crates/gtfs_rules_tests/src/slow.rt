@@ -1,5 +1,5 @@
-//! The problems of a dataset by a plain slow check: every site of every file is asked for every code, and each rule
-//! goes over the rows as often as it likes.
+//! The problems of a dataset by a plain slow check: every site of every file is asked for every
+//! code, and each rule goes over the rows as often as it likes.
 
 mod calendar;
 mod files;

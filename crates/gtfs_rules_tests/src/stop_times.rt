@@ -26,7 +26,8 @@ const FILES: [FileLines; 3] = [
     ),
 ];
 
-// The trip, the stop, the row, the times, the sequence and the choices of each, and whether it has a headsign.
+// The trip, the stop, the row, the times, the sequence and the choices of each,
+// and whether it has a headsign.
 const WANTED: &str = "\
 0 1 5 Some(28800) Some(28800) 2 None Regular Some(Exact) false
 0 2 3 Some(90600) Some(90690) 7 Phone Driver Some(Approximate) true

@@ -1,5 +1,5 @@
-//! Texts of each length up to twenty bytes, beside themselves, beside those that differ at one byte, and beside shorter
-//! ones.
+//! Texts of each length up to twenty bytes, beside themselves, beside those that differ at one
+//! byte, and beside shorter ones.
 
 use crate::assertions::assert_case;
 use gtfs_columns::are_equal;

@@ -25,7 +25,8 @@ pub(crate) fn is_departure_row(rows: &[StopRow], position: usize) -> bool
     position < rows.len() - 1 && lets_board(&rows[position])
 }
 
-// Whether riders can board, where the trip goes on: the stop time has a time, and its pick-up type is not 1.
+// Whether riders can board, where the trip goes on:
+// the stop time has a time, and its pick-up type is not 1.
 fn lets_board(row: &StopRow) -> bool
     ensures { (p : Parts) → result
         ≡ (is_timed (stop_row_of p row.now) && allows_boarding (stop_row_of p row.now)) }

@@ -5,7 +5,8 @@ use gtfs_rows::TripNo;
 
 /// A run of a trip that passes a row at which riders can leave a stop.
 ///
-/// Events are ordered by time, trip, run, sequence and row; the numbers of trips follow the bytes of their ids.
+/// Events are ordered by time, trip, run, sequence and row;
+/// the numbers of trips follow the bytes of their ids.
 #[derive(Clone, Copy, Debug, PartialEq, Eq, PartialOrd, Ord)]
 pub struct Event {
     /// When it passes the row, in seconds from the origin of its service day: 0 to 7,199,997.

@@ -8,8 +8,8 @@ use crate::steps::Steps;
 use gtfs_feed::Feed;
 use gtfs_rows::ServiceNo;
 
-/// The events of trips without frequencies that have one list of stops and one service, at one position in that list, of
-/// which one at least is at a stop time that has no time of its own.
+/// The events of trips without frequencies that have one list of stops and one service, at one
+/// position in that list, of which one at least is at a stop time that has no time of its own.
 #[derive(Drop)]
 pub struct FilledLane {
     list: ListLane,

@@ -23,12 +23,15 @@ use gtfs_rows::{Frequency, ServiceNo, StopNo, StopRow, TripNo};
 use gtfs_times::{Times, filled, is_to_fill};
 use std::alloc::Global;
 
-/// All events at the place of a stop, each once: by the service of their trips, and those of a service in their order.
+/// All events at the place of a stop, each once:
+/// by the service of their trips, and those of a service in their order.
 ///
-/// This is the plain counterpart of lanes, for tests that compare with them, under the same [`Times`]. It unfolds every
-/// run, so one row of `frequencies.txt` can make millions of events. The stop's number is below [`Feed::stop_count`].
+/// This is the plain counterpart of lanes, for tests that compare with them, under the same
+/// [`Times`]. It unfolds every run, so one row of `frequencies.txt` can make millions of events.
+/// The stop's number is below [`Feed::stop_count`].
 ///
-/// GTFS Schedule Reference, `stop_times.txt`, `frequencies.txt`, and `parent_station` of `stops.txt`.
+/// GTFS Schedule Reference, `stop_times.txt`, `frequencies.txt`,
+/// and `parent_station` of `stops.txt`.
 ///
 /// # Errors
 /// [`OutOfMemory`] where memory ran out.
@@ -92,7 +95,8 @@ fn push_trip(
     push_rows(alloc, feed, place, trip, rows, events)
 }
 
-// Adds the events of a trip at these stop times, which are the trip's or these with their times filled.
+// Adds the events of a trip at these stop times,
+// which are the trip's or these with their times filled.
 fn push_rows(
     alloc: Global,
     feed: &Feed,
@@ -215,7 +219,8 @@ fn leaves(row: &StopRow) -> u32
     }
 }
 
-// The seconds at which the runs of a trip start, of its stop times, of which there is one, and its frequencies.
+// The seconds at which the runs of a trip start, of its stop times, of which there is one,
+// and its frequencies.
 fn starts(alloc: Global, rows: &[StopRow], periods: &[Frequency]) -> Result<Vec<u32>, OutOfMemory>
     requires filled { 0 < length rows.now }
     requires moves { All (λ f. 0 < f.headway_secs) periods.now }

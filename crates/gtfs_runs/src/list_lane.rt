@@ -12,7 +12,8 @@ use crate::steps::Steps;
 use gtfs_feed::Feed;
 use gtfs_rows::ServiceNo;
 
-/// The events of trips without frequencies that have one list of stops and one service, at one position in that list.
+/// The events of trips without frequencies that have one list of stops and one service,
+/// at one position in that list.
 #[derive(Drop)]
 pub struct ListLane {
     service: ServiceNo,

@@ -4,10 +4,12 @@ ghost use Rattle.gtfs_runs.specs.Order.{is_above_moment};
 use crate::event::Event;
 use gtfs_rows::TripNo;
 
-/// A position from which a lane is asked, with the trip's number: events lie above it by time, trip, run and sequence.
+/// A position from which a lane is asked, with the trip's number:
+/// events lie above it by time, trip, run and sequence.
 ///
-/// It may lie before the origin of a service day and past every event, and it need not be that of an event. The number
-/// of the first trip with a greater id, run 0 and sequence -1 stand for an id that no trip has.
+/// It may lie before the origin of a service day and past every event, and it need not be
+/// that of an event. The number of the first trip with a greater id, run 0 and sequence -1
+/// stand for an id that no trip has.
 #[derive(Clone, Copy, Debug)]
 pub struct Moment {
     /// Seconds from the origin of the service day.

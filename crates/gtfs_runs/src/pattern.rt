@@ -37,10 +37,11 @@ pub(crate) struct Headed {
     trip: TripNo,
 }
 
-/// The patterns of a route: one for each direction and list of stops of its trips that have a stop time.
+/// The patterns of a route:
+/// one for each direction and list of stops of its trips that have a stop time.
 ///
-/// They stand by direction, no direction before 0 and 0 before 1, and then by their stops: lists compare like words, by
-/// the ids of the stops, so a list that begins another stands before it.
+/// They stand by direction, no direction before 0 and 0 before 1, and then by their stops: lists
+/// compare like words, by the ids of the stops, so a list that begins another stands before it.
 ///
 /// # Errors
 /// [`OutOfMemory`] where memory ran out.

@@ -7,10 +7,11 @@ use crate::trips::trips_below;
 use gtfs_feed::Feed;
 use gtfs_rows::TripNo;
 
-/// A position from which a lane is asked: events lie above it by time, the trip's id byte by byte, run and sequence.
+/// A position from which a lane is asked:
+/// events lie above it by time, the trip's id byte by byte, run and sequence.
 ///
-/// It may lie before the origin of a service day and past every event, and it need not be that of an event: the id may
-/// be one that no trip has.
+/// It may lie before the origin of a service day and past every event, and it need not be that of
+/// an event: the id may be one that no trip has.
 #[derive(Clone, Copy, Debug)]
 pub struct Seek<'a> {
     /// Seconds from the origin of the service day.

@@ -15,7 +15,8 @@ use crate::steps::Steps;
 use gtfs_feed::Feed;
 use gtfs_rows::{Frequency, ServiceNo};
 
-/// The events of one row of `frequencies.txt` at one stop time of its trip: one for each run of the period.
+/// The events of one row of `frequencies.txt` at one stop time of its trip:
+/// one for each run of the period.
 ///
 /// However many runs there are, it has a few dozen bytes, and a run is found by arithmetic.
 #[derive(Clone, Copy)]

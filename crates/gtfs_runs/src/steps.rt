@@ -4,7 +4,8 @@ use std::marker::Model;
 
 /// How often lanes were asked for a departure: a number that stays at the greatest of 64 bits.
 ///
-/// Only the lanes of a stop come with one, and nothing copies one, so nobody else can change what is told.
+/// Only the lanes of a stop come with one, and nothing copies one,
+/// so nobody else can change what is told.
 #[derive(Drop)]
 pub struct Steps {
     count: u64,

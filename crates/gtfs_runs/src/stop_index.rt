@@ -24,7 +24,8 @@ use gtfs_times::Times;
 use std::alloc::Global;
 use std::marker::Model;
 
-/// A stop time at which riders can leave its stop: its trip, and its position among the stop times of that trip.
+/// A stop time at which riders can leave its stop:
+/// its trip, and its position among the stop times of that trip.
 #[derive(Clone, Copy, Debug, PartialEq, Eq, PartialOrd, Ord)]
 pub struct DepartureRow {
     trip: u32,
@@ -54,7 +55,8 @@ impl DepartureRow {
     }
 }
 
-/// The departure rows of a feed by stop, of which the lanes of any stop can be made without a look at the other trips.
+/// The departure rows of a feed by stop,
+/// of which the lanes of any stop can be made without a look at the other trips.
 ///
 /// It keeps a vector for each stop, eight bytes for each stop time, eight for each stop or platform
 /// with a parent, and twelve for each trip.
@@ -79,17 +81,18 @@ impl<'a> Model for StopIndex<'a> {
 }
 
 impl<'a> StopIndex<'a> {
-    /// The index of a feed under a choice of times. Under [`Times::Interpolated`] stop times whose times are filled are
-    /// departure rows too.
+    /// The index of a feed under a choice of times. Under [`Times::Interpolated`] stop times whose
+    /// times are filled are departure rows too.
     ///
-    /// It looks at each stop time of the feed to see how much room each stop needs, and then at each
-    /// for the departure rows, which it does not sort. It sorts the trips by service and stops. A
-    /// trip with times to fill is copied for as long as its departure rows are looked for.
+    /// It looks at each stop time of the feed to see how much room each stop needs, and then at
+    /// each for the departure rows, which it does not sort. It sorts the trips by service and
+    /// stops. A trip with times to fill is copied for as long as its departure rows are looked for.
     ///
     /// GTFS Schedule Reference, `stop_times.txt`, and `parent_station` of `stops.txt`.
     ///
     /// # Errors
-    /// [`OutOfMemory`] where memory ran out, or where the feed has more than 4,294,967,296 stops, trips or stop times of a trip.
+    /// [`OutOfMemory`] where memory ran out, or where the feed has more than 4,294,967,296 stops,
+    /// trips or stop times of a trip.
     pub fn build(alloc: Global, feed: &'a Feed, times: Times) -> Result<StopIndex<'a>, OutOfMemory>
         ensures feed { IfOk result (λ index. index.feed ≡ feed.now) }
         ensures times { IfOk result (λ index. index.times ≡ times) }
@@ -120,8 +123,8 @@ impl<'a> StopIndex<'a> {
         self.times
     }
 
-    /// The departure rows at a stop itself, whatever its parent, by trip and position. The stop's number is below
-    /// [`Feed::stop_count`] of the feed.
+    /// The departure rows at a stop itself, whatever its parent, by trip and position. The stop's
+    /// number is below [`Feed::stop_count`] of the feed.
     pub fn rows(&self, stop: StopNo) -> &[DepartureRow]
         requires { stop.0 < length self.now.feed.stops }
         ensures { slice_get self.now.rows stop.0 ≡ Some result.now }
@@ -129,7 +132,8 @@ impl<'a> StopIndex<'a> {
         self.rows.at(stop)
     }
 
-    /// What each index keeps, for proofs: it has exactly the departure rows of its feed. It does nothing.
+    /// What each index keeps, for proofs: it has exactly the departure rows of its feed.
+    /// It does nothing.
     pub fn soundness(&self)
         ensures { AreDepartureRows self.now.times self.now.feed self.now.rows }
     {

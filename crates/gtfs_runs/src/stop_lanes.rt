@@ -34,12 +34,14 @@ use std::marker::Model;
 
 /// The lanes of the place of a stop: the stop, and each stop or platform whose parent it is.
 ///
-/// Each run of a trip that passes a stop time there at which riders can leave is an event of one lane of the trip's
-/// service. Trips without frequencies that have one list of stops and one service share a lane for each position in that
-/// list; a row of `frequencies.txt` has one for each such stop time of its trip.
+/// Each run of a trip that passes a stop time there at which riders can leave is an event of one
+/// lane of the trip's service. Trips without frequencies that have one list of stops and one
+/// service share a lane for each position in that list; a row of `frequencies.txt` has one for
+/// each such stop time of its trip.
 ///
-/// Times are those of the file, or under [`Times::Interpolated`] also those that `gtfs_times` gives to stop times without any.
-/// A lane shared by trips stands apart where one of its times is such a one.
+/// Times are those of the file, or under [`Times::Interpolated`] also those that
+/// `gtfs_times` gives to stop times without any. A lane shared by trips stands apart where
+/// one of its times is such a one.
 #[derive(Drop)]
 pub struct StopLanes {
     lists: Vec<ListLane>,
@@ -63,14 +65,16 @@ impl Model for StopLanes {
 }
 
 impl StopLanes {
-    /// The lanes of the place of a stop, whose number is below [`Feed::stop_count`], and a count of steps, which begins at 0:
-    /// nothing else makes one.
+    /// The lanes of the place of a stop, whose number is below [`Feed::stop_count`], and a count of
+    /// steps, which begins at 0: nothing else makes one.
     ///
-    /// It looks at each stop time of the feed once, and sorts the trips without frequencies that pass the place by service and
-    /// stops, and then their events there by numbers. A row of `frequencies.txt` takes the same memory however many runs it
-    /// has. A trip with times to fill is copied for as long as it is looked at.
+    /// It looks at each stop time of the feed once, and sorts the trips without frequencies that
+    /// pass the place by service and stops, and then their events there by numbers. A row of
+    /// `frequencies.txt` takes the same memory however many runs it has. A trip with times to fill
+    /// is copied for as long as it is looked at.
     ///
-    /// GTFS Schedule Reference, `stop_times.txt`, `frequencies.txt`, and `parent_station` of `stops.txt`.
+    /// GTFS Schedule Reference, `stop_times.txt`, `frequencies.txt`,
+    /// and `parent_station` of `stops.txt`.
     ///
     /// # Errors
     /// [`OutOfMemory`] where memory ran out, or where the feed has more than 4,294,967,296
@@ -95,13 +99,15 @@ impl StopLanes {
         StopLanes::of_whole(alloc, feed, stop, times, lists, periods)
     }
 
-    /// The lanes of the place of a stop, made of an index: those that [`StopLanes::build`] makes of its feed under its times.
-    /// The stop's number is below [`Feed::stop_count`] of that feed.
+    /// The lanes of the place of a stop, made of an index: those that [`StopLanes::build`] makes of
+    /// its feed under its times. The stop's number is below [`Feed::stop_count`] of that feed.
     ///
-    /// It looks at the departure rows at the place and at no other stop time, but that a trip with times to fill is looked at
-    /// and copied whole. It sorts the events there by numbers, which the index has, and compares no stops.
+    /// It looks at the departure rows at the place and at no other stop time, but that a trip with
+    /// times to fill is looked at and copied whole. It sorts the events there by numbers, which the
+    /// index has, and compares no stops.
     ///
-    /// GTFS Schedule Reference, `stop_times.txt`, `frequencies.txt`, and `parent_station` of `stops.txt`.
+    /// GTFS Schedule Reference, `stop_times.txt`, `frequencies.txt`,
+    /// and `parent_station` of `stops.txt`.
     ///
     /// # Errors
     /// [`OutOfMemory`] where memory ran out, or where the feed has more than 4,294,967,296
@@ -161,31 +167,32 @@ impl StopLanes {
         Ok((lanes, Steps::new()))
     }
 
-    /// The lanes of trips without frequencies: one for each list of stops, position in it and service, but those in
-    /// [`StopLanes::filled`].
+    /// The lanes of trips without frequencies: one for each list of stops, position in it and
+    /// service, but those in [`StopLanes::filled`].
     pub fn lists(&self) -> &[ListLane]
         ensures { map list_value result.now ≡ self.now.lists }
     {
         &self.lists
     }
 
-    /// The lanes of the rows of `frequencies.txt`: one for each row and each of these stop times of its trip.
+    /// The lanes of the rows of `frequencies.txt`:
+    /// one for each row and each of these stop times of its trip.
     pub fn periods(&self) -> &[StepLane]
         ensures { map period_value result.now ≡ self.now.periods }
     {
         &self.periods
     }
 
-    /// Those lanes of trips without frequencies of which an event is at a stop time without a time of its own. There are none
-    /// under [`Times::Given`].
+    /// Those lanes of trips without frequencies of which an event is at a stop time without a time
+    /// of its own. There are none under [`Times::Given`].
     pub fn filled(&self) -> &[FilledLane]
         ensures { map filled_value result.now ≡ self.now.filled }
     {
         &self.filled
     }
 
-    /// The latest second from the origin of a service day at which a run passes one of these stop times, 0 to 7,199,997, and
-    /// 0 where there is none.
+    /// The latest second from the origin of a service day at which a run passes one of these stop
+    /// times, 0 to 7,199,997, and 0 where there is none.
     pub fn greatest(&self) -> u32
         ensures { result ≡ self.now.greatest }
     {

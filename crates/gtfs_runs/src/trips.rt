@@ -6,7 +6,8 @@ ghost use Rattle.gtfs_rows.specs.Views.{text_of_number, trip_ids};
 
 use gtfs_feed::Feed;
 
-/// How many trips have an id below this one, byte by byte: the number of the first trip with this id or a greater one.
+/// How many trips have an id below this one, byte by byte:
+/// the number of the first trip with this id or a greater one.
 pub fn trips_below(feed: &Feed, id: &str) -> usize
     ensures { (n : ℕ) → n < length feed.now.trips
         → nat_lt n result ≡ is_lt (text_cmp (text_of_number (trip_ids feed.now) n) id.now) }

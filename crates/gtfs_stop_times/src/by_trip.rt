@@ -18,11 +18,11 @@ pub struct RowRange {
     pub end: usize,
 }
 
-/// The stop times of all trips, by the numbers of trips and in each trip by sequence (GTFS Schedule Reference,
-/// `stop_times.txt`).
+/// The stop times of all trips, by the numbers of trips and in each trip by sequence (GTFS
+/// Schedule Reference, `stop_times.txt`).
 ///
-/// They are seen as one list, trip after trip, and where the stop times of each trip begin. In memory they may stand in
-/// the order of the file, so that they need not be moved.
+/// They are seen as one list, trip after trip, and where the stop times of each trip begin. In
+/// memory they may stand in the order of the file, so that they need not be moved.
 #[derive(Drop)]
 pub struct StopTimesByTrip {
     rows: Vec<StopRow>,
@@ -49,7 +49,8 @@ impl Model for StopTimesByTrip {
 }
 
 impl StopTimesByTrip {
-    /// Stop times that stand trip after trip, and where those of each trip begin. It takes no memory.
+    /// Stop times that stand trip after trip, and where those of each trip begin.
+    /// It takes no memory.
     pub fn new(rows: List<StopRow>, starts: List<usize>) -> StopTimesByTrip
         ensures rows { result.rows ≡ rows }
         ensures starts { result.starts ≡ starts }
@@ -60,8 +61,9 @@ impl StopTimesByTrip {
         }
     }
 
-    /// Stop times of which those of each trip stand somewhere in a list of rows, a range for each trip. The ranges
-    /// have so many rows in all; what else is in the list is never seen. It takes no memory.
+    /// Stop times of which those of each trip stand somewhere in a list of rows, a range
+    /// for each trip. The ranges have so many rows in all; what else is in the list is
+    /// never seen. It takes no memory.
     pub fn at_ranges(rows: Vec<StopRow>, ranges: Vec<RowRange>, len: usize) -> StopTimesByTrip
         requires within { AreWithin (length rows.items) ranges.items }
         requires len { length (in_turn (map (rows_in rows.items) ranges.items)).rows ≡ len }
@@ -83,8 +85,8 @@ impl StopTimesByTrip {
         }
     }
 
-    /// The stop times of the trip of this number, by sequence. The starts rise, from 0 on, and none lies past the last stop
-    /// time; the number is that of a start.
+    /// The stop times of the trip of this number, by sequence. The starts rise, from 0 on, and none
+    /// lies past the last stop time; the number is that of a start.
     pub fn of_trip(&self, trip: usize) -> &[StopRow]
         requires rising { Rising 0 self.now.starts (length self.now.rows) }
         requires within { trip < length self.now.starts }

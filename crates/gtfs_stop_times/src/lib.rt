@@ -1,16 +1,20 @@
-//! The stop times of a GTFS Schedule feed as typed values: the rows of `stop_times.txt`, with numbers in place of ids.
+//! The stop times of a GTFS Schedule feed as typed values:
+//! the rows of `stop_times.txt`, with numbers in place of ids.
 //!
-//! - A [`StopRow`] is a stop time without its trip. It is small and `Copy`: a time that may be missing is an
-//!   [`OptionalClock`] of four bytes, and a headsign an [`OptionalHeadsign`], a number in a list of headsigns.
-//! - [`PickupType`], [`DropOffType`] and [`Timepoint`] are its choices, with the numbers of the standard.
-//! - A [`StopNo`] is the rank of an id among the ids of all stops, by bytes, from 0; a [`HeadsignNo`] is the index of a
-//!   headsign.
-//! - [`StopTimesByTrip`] are the stop times of all trips, which may stay in the order of the file; [`stretch`] finds the
-//!   items of one trip in a list of those of all trips.
+//! - A [`StopRow`] is a stop time without its trip. It is small and `Copy`: a time that may be
+//!   missing is an [`OptionalClock`] of four bytes, and a headsign an [`OptionalHeadsign`], a
+//!   number in a list of headsigns.
+//! - [`PickupType`], [`DropOffType`] and [`Timepoint`] are its choices,
+//!   with the numbers of the standard.
+//! - A [`StopNo`] is the rank of an id among the ids of all stops, by bytes, from 0; a
+//!   [`HeadsignNo`] is the index of a headsign.
+//! - [`StopTimesByTrip`] are the stop times of all trips, which may stay in the order of the file;
+//!   [`stretch`] finds the items of one trip in a list of those of all trips.
 //! - [`room_for`] tells for how many items a list of millions asks.
 //!
-//! The numbers of choices are in `specs/Choices.antt`; a value that may be missing, and its four bytes, in
-//! `specs/Optional.antt`; the stop times of all trips, as they are seen and where they stand, in `specs/ByTrip.antt`.
+//! The numbers of choices are in `specs/Choices.antt`; a value that may be missing, and its four
+//! bytes, in `specs/Optional.antt`; the stop times of all trips, as they are seen and where they
+//! stand, in `specs/ByTrip.antt`.
 #![tactic(auto)]
 
 mod by_trip;

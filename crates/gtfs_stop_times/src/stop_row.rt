@@ -4,8 +4,8 @@ use crate::optional::{OptionalClock, OptionalHeadsign};
 
 /// A row of `stop_times.txt`, without its trip (GTFS Schedule Reference, `stop_times.txt`).
 ///
-/// Feeds have millions of these, so it has 32 bytes: a missing time and a missing headsign take no more room than
-/// one that is there.
+/// Feeds have millions of these, so it has 32 bytes: a missing time and a missing headsign take no
+/// more room than one that is there.
 #[derive(Clone, Copy, Debug, PartialEq, Eq)]
 pub struct StopRow {
     pub stop_id: StopNo,

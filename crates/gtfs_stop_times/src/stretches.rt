@@ -2,9 +2,9 @@ ghost use Rattle.std.specs.Prelude.{◌≡◌, ◌<◌, ◌+◌, Some, length, s
 ghost use Rattle.csv.specs.Records.{Rising};
 ghost use Rattle.gtfs_table.specs.Parts.{parts};
 
-/// The rows of one trip in a list of the rows of all trips, trip after trip: from the start of this number to the next
-/// start, or to the end. The starts rise, from 0 on, and none lies past the end of the list; the number is that
-/// of a start.
+/// The rows of one trip in a list of the rows of all trips, trip after trip: from the start of this
+/// number to the next start, or to the end. The starts rise, from 0 on, and none lies past the end
+/// of the list; the number is that of a start.
 pub fn stretch<'a, T>(rows: &'a [T], starts: &[usize], number: usize) -> &'a [T]
     requires rising { Rising 0 starts.now (length rows.now) }
     requires within { number < length starts.now }

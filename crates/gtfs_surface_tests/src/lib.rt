@@ -1,7 +1,7 @@
-//! The public calls and types by their signatures. It builds only where each is as it is written here, so that none of them
-//! changes unnoticed: each test hands the calls of a crate to a function whose parameters have their types, functions beside
-//! it take records apart and name all variants of an enum, and the numbers of faults are compared. Nothing of it does
-//! anything when it runs.
+//! The public calls and types by their signatures. It builds only where each is as it is written
+//! here, so that none of them changes unnoticed: each test hands the calls of a crate to a function
+//! whose parameters have their types, functions beside it take records apart and name all variants
+//! of an enum, and the numbers of faults are compared. Nothing of it does anything when it runs.
 #![tactic(auto)]
 
 #[cfg(test)]

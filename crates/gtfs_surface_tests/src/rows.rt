@@ -184,7 +184,8 @@ fn service(row: &ServiceRow) -> (&Text, &Service) {
     (service_id, service)
 }
 
-// A list for each kind of row. The frequencies of all trips stand in one list, with where each trip's begin.
+// A list for each kind of row.
+// The frequencies of all trips stand in one list, with where each trip's begin.
 fn parts(parts: &Parts) {
     let Parts {
         agencies,

@@ -13,7 +13,8 @@ pub fn plain_character(character: char) -> char
     }
 }
 
-// The text without the blanks at its ends: a blank is a space or a control character (codes 0 to 31, and 127).
+// The text without the blanks at its ends:
+// a blank is a space or a control character (codes 0 to 31, and 127).
 #[inline(always)]
 pub(crate) fn cut(text: &str) -> &str
     ensures { result.now ≡ cut text.now }

@@ -9,15 +9,15 @@ use std::alloc::Global;
 use std::marker::Model;
 use std::mem;
 
-// How many offsets have one base: few records reach into another block, and two bytes are enough for fields
-// of up to 255 bytes on average.
+// How many offsets have one base: few records reach into another block, and two bytes are enough
+// for fields of up to 255 bytes on average.
 const BLOCK: usize = 256;
 
 // The largest distance that two bytes tell.
 const LARGEST: usize = u16::MAX as usize;
 
-// Offsets of two bytes each, in blocks: each is kept as its distance from the base of its block, which is
-// the block's first offset.
+// Offsets of two bytes each, in blocks: each is kept as its distance from the base of its block,
+// which is the block's first offset.
 #[derive(Drop)]
 pub(crate) struct Blocks {
     bases: Vec<u32>,
@@ -81,8 +81,8 @@ impl Blocks {
         self.bases[i / BLOCK] as usize + self.distances[i] as usize
     }
 
-    // The offsets with the numbers from `start` to `end` as far as they stand in one block: its base, and
-    // their distances from it. None where the list ends before.
+    // The offsets with the numbers from `start` to `end` as far as they stand in one block: its
+    // base, and their distances from it. None where the list ends before.
     #[inline(always)]
     pub(crate) fn near(&self, start: usize, end: usize) -> (usize, &[u16])
         requires { start ≤ end }
@@ -98,8 +98,8 @@ impl Blocks {
         (base, &distances[start..last + 1])
     }
 
-    // Adds an offset at the end where two bytes are enough for it, and tells whether it did. A refusal
-    // leaves the list as it was.
+    // Adds an offset at the end where two bytes are enough for it, and tells whether it did. A
+    // refusal leaves the list as it was.
     #[inline]
     pub(crate) fn push(&mut self, offset: usize) -> Result<bool, OutOfMemory>
         ensures ok { IfOk result (λ added. self.new
@@ -137,8 +137,9 @@ impl Blocks {
         }
     }
 
-    // Adds where the fields of a record begin, the first at `first`, and gives their size: where the last
-    // block has room for them all and two bytes are enough for each. A refusal leaves the list as it was.
+    // Adds where the fields of a record begin, the first at `first`, and gives their size:
+    // where the last block has room for them all and two bytes are enough for each. A
+    // refusal leaves the list as it was.
     #[inline]
     pub(crate) fn append(
         &mut self,
@@ -179,8 +180,8 @@ impl Blocks {
     }
 }
 
-// Adds where the fields of a record begin, the first at `start`, and gives their size. The list comes by value,
-// so that its length can stay in a register.
+// Adds where the fields of a record begin, the first at `start`, and gives their size. The list
+// comes by value, so that its length can stay in a register.
 fn push_starts(mut distances: Vec<u16>, start: usize, row: &ByteRecord) -> (Vec<u16>, usize)
     requires whole { IsRecord row.now }
     requires room { vec_len distances + length (fields_of row.now) ≤ vec_capacity distances }

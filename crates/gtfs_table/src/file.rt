@@ -1,8 +1,8 @@
 ghost use Rattle.std.specs.Prelude.{◌≡◌};
 ghost use Rattle.gtfs_table.specs.Files.{file_name};
 
-/// One of the nine files of a GTFS Schedule dataset that are read and kept (GTFS Schedule Reference,
-/// "Dataset Files").
+/// One of the nine files of a GTFS Schedule dataset that are read and kept (GTFS
+/// Schedule Reference, "Dataset Files").
 #[derive(Clone, Copy, Debug, PartialEq, Eq)]
 pub enum File {
     /// `agency.txt`: the agencies, with their time zones.

@@ -9,8 +9,8 @@ use gtfs_field::OutOfMemory;
 use std::alloc::Global;
 use std::marker::Model;
 
-// Offsets in a buffer, of two bytes each until the first that needs more than its distance from the base of
-// its block, and then of four bytes each until the first that takes more.
+// Offsets in a buffer, of two bytes each until the first that needs more than its distance from the
+// base of its block, and then of four bytes each until the first that takes more.
 #[derive(Drop)]
 pub(crate) struct Offsets {
     blocks: Blocks,
@@ -74,8 +74,8 @@ impl Offsets {
         let _ = self.wide.as_slice();
     }
 
-    // Where the part with this number begins and ends: it begins at the offset with that number, and ends at
-    // the next one, or else at `size`.
+    // Where the part with this number begins and ends: it begins at the offset with that number,
+    // and ends at the next one, or else at `size`.
     #[inline(always)]
     pub(crate) fn span(&self, i: usize, size: usize) -> (usize, usize)
         requires { i < length self.now }
@@ -101,8 +101,8 @@ impl Offsets {
         (self.get(i), self.end_of(i, size))
     }
 
-    // The offsets with the numbers from `start` to `end` as far as they stand in one block: its base, and
-    // their distances from it. None where the blocks end before.
+    // The offsets with the numbers from `start` to `end` as far as they stand in one block: its
+    // base, and their distances from it. None where the blocks end before.
     #[inline(always)]
     pub(crate) fn near(&self, start: usize, end: usize) -> (usize, &[u16])
         requires { start ≤ end }
@@ -161,8 +161,8 @@ impl Offsets {
         Ok(())
     }
 
-    // Adds where the fields of a record begin, the first at `first`, and gives their size. A refusal may leave
-    // more offsets than there were.
+    // Adds where the fields of a record begin, the first at `first`, and gives their size. A
+    // refusal may leave more offsets than there were.
     pub(crate) fn append(&mut self, first: usize, row: &ByteRecord) -> Result<usize, OutOfMemory>
         requires whole { IsRecord row.now }
         requires within { first + length row.now.bytes < 2 ^ 64 }

@@ -11,7 +11,8 @@ use std::marker::Model;
 
 /// One record of a table, found once for the many fields that a caller reads of it.
 ///
-/// Its fields are numbered from 0, and a field that was read stays valid after the record is let go.
+/// Its fields are numbered from 0,
+/// and a field that was read stays valid after the record is let go.
 #[derive(Drop)]
 pub struct Record<'a> {
     // The run of a short record, and where in it the first field begins and each ends. Or bytes,
@@ -103,7 +104,8 @@ impl<'a> Record<'a> {
         blanks::begins_visible(self.raw(0))
     }
 
-    // The same where a search for a value is needed: no call, which would want the record in memory.
+    // The same where a search for a value is needed:
+    // no call, which would want the record in memory.
     #[inline(always)]
     fn has_value_anywhere(&self) -> bool
         ensures { result ≡ list_any (λ field. not (is_empty (cut field))) self.now }
@@ -124,8 +126,9 @@ impl<'a> Record<'a> {
         blanks::cut(self.raw(n))
     }
 
-    /// The value of a column by its index, as [`Tables::column`](crate::Tables::column) gives it: the field
-    /// there, cut of its blanks, and the empty text where the record has none or the file no such column.
+    /// The value of a column by its index, as [`Tables::column`](crate::Tables::column)
+    /// gives it: the field there, cut of its blanks, and the empty text where the record has
+    /// none or the file no such column.
     #[inline(always)]
     pub fn value(&self, column: Option<usize>) -> &'a str
         ensures { result.now ≡ field_under self.now column }

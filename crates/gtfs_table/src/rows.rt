@@ -7,8 +7,8 @@ use std::marker::Model;
 
 /// The rows of a file that are still to come, in its order, each with its number and its record.
 ///
-/// A row is a record after the header of which not all fields are blank. Rows have the numbers of their
-/// records, from 2, so those of blank records are missing.
+/// A row is a record after the header of which not all fields are blank. Rows have the numbers of
+/// their records, from 2, so those of blank records are missing.
 #[derive(Drop)]
 pub struct Rows<'a> {
     records: &'a Records,

@@ -3,7 +3,8 @@
 pub enum State {
     /// The folder has no such file.
     Absent,
-    /// The file is there, and what follows its byte order marks is not UTF-8. None of its records are kept.
+    /// The file is there, and what follows its byte order marks is not UTF-8.
+    /// None of its records are kept.
     NotUtf8,
     /// The file is there, and its records were read.
     Read,

@@ -110,8 +110,8 @@ impl FileTable {
         self.records.push_field(field)
     }
 
-    // The text of the records as `csv` writes it: none where the file is absent, and empty where it has
-    // none since it is not UTF-8.
+    // The text of the records as `csv` writes it: none where the file is absent, and empty where it
+    // has none since it is not UTF-8.
     pub(crate) fn write(&self, alloc: Global) -> Result<Option<Vec<u8>>, OutOfMemory>
         ensures text { IfOk result
             (λ text. option_map (λ bytes. bytes.items) text ≡ text_of_table self.now) }

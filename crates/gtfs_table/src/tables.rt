@@ -21,11 +21,12 @@ use gtfs_field::{OutOfMemory, Text};
 use std::alloc::Global;
 use std::marker::Model;
 
-/// The nine kept files of a GTFS Schedule dataset as tables, and the names of what else its folder holds.
+/// The nine kept files of a GTFS Schedule dataset as tables,
+/// and the names of what else its folder holds.
 ///
-/// A table is a list of records of fields. Rows are numbered from 1, and row 1 is the header; fields and
-/// columns are numbered from 0. A table keeps its fields as they were read or pushed; what reads a field
-/// cuts the blanks (spaces and control characters) at both its ends.
+/// A table is a list of records of fields. Rows are numbered from 1, and row 1 is the header;
+/// fields and columns are numbered from 0. A table keeps its fields as they were read or pushed;
+/// what reads a field cuts the blanks (spaces and control characters) at both its ends.
 pub struct Tables {
     agency: FileTable,
     stops: FileTable,
@@ -106,16 +107,16 @@ impl Tables {
         }
     }
 
-    /// Reads a folder: first its names, and then each kept file in the order of [`File::ALL`], whichever
-    /// names there were. The first fault ends it.
+    /// Reads a folder: first its names, and then each kept file in the order of [`File::ALL`],
+    /// whichever names there were. The first fault ends it.
     ///
-    /// Leading byte order marks are dropped, and what follows has to be UTF-8. The records of a file are
-    /// those that `csv` reads by default, with no header handling, of any lengths.
+    /// Leading byte order marks are dropped, and what follows has to be UTF-8. The records of a
+    /// file are those that `csv` reads by default, with no header handling, of any lengths.
     ///
     /// # Errors
-    /// `Read` where the device failed, and its count of failures rose; at any other the count is as it was.
-    /// `TooLarge` where a kept file is longer than the device's limit, `NoFolder` where there is no such
-    /// folder, and `OutOfMemory` where memory is refused.
+    /// `Read` where the device failed, and its count of failures rose; at any other the count is as
+    /// it was. `TooLarge` where a kept file is longer than the device's limit, `NoFolder` where
+    /// there is no such folder, and `OutOfMemory` where memory is refused.
     pub fn read<F: Folders>(
         alloc: Global,
         folders: &mut F,
@@ -165,16 +166,16 @@ impl Tables {
         self.table(file).len()
     }
 
-    /// The rows of a file in its order, each with its number and its record: the records after the header,
-    /// which is row 1, that have a field that is not blank.
+    /// The rows of a file in its order, each with its number and its record: the records after the
+    /// header, which is row 1, that have a field that is not blank.
     pub fn rows(&self, file: File) -> Rows<'_>
         ensures { result ≡ map (numbered (records_in self.now file)) (row_numbers self.now file) }
     {
         self.table(file).rows()
     }
 
-    /// The record of the row with this number: none where the record is the header or is blank, or where
-    /// there is none.
+    /// The record of the row with this number:
+    /// none where the record is the header or is blank, or where there is none.
     #[inline]
     pub fn row(&self, file: File, n: usize) -> Option<Record<'_>>
         ensures there { is_some result ≡ row_of (records_in self.now file) n }
@@ -191,15 +192,16 @@ impl Tables {
         }
     }
 
-    /// Whether there is a row with this number: a record after the header with a field that is not blank.
+    /// Whether there is a row with this number:
+    /// a record after the header with a field that is not blank.
     pub fn is_row(&self, file: File, n: usize) -> bool
         ensures { result ≡ row_of (records_in self.now file) n }
     {
         self.row(file, n).is_some()
     }
 
-    /// A record by its number, for a caller that reads many fields of it: one with no field where there is
-    /// no such record.
+    /// A record by its number, for a caller that reads many fields of it:
+    /// one with no field where there is no such record.
     pub fn record(&self, file: File, row: usize) -> Record<'_>
         ensures { result ≡ record_at (records_in self.now file) row }
     {
@@ -220,8 +222,8 @@ impl Tables {
         self.record(file, row).field(n)
     }
 
-    /// The index of a column: that of the first field of the header which, cut of its blanks, is this
-    /// name. The empty name is no column.
+    /// The index of a column: that of the first field of the header which, cut of its blanks, is
+    /// this name. The empty name is no column.
     ///
     /// A column is looked up once, and its fields are then read by [`Tables::field`] row after row.
     pub fn column(&self, file: File, name: &str) -> Option<usize>
@@ -230,8 +232,8 @@ impl Tables {
         self.table(file).column(name)
     }
 
-    /// The value of a column in a row: the field under the first header column of that name, cut of its
-    /// blanks, and the empty text where there is none.
+    /// The value of a column in a row: the field under the first header column of that name, cut of
+    /// its blanks, and the empty text where there is none.
     pub fn value(&self, file: File, row: usize, column: &str) -> &str
         ensures { result.now ≡ value (records_in self.now file) row column.now }
     {
@@ -241,7 +243,8 @@ impl Tables {
         }
     }
 
-    /// The names of what else the folder holds, in the order of their bytes. None is that of a kept file.
+    /// The names of what else the folder holds, in the order of their bytes.
+    /// None is that of a kept file.
     pub fn others(&self) -> &[Text]
         ensures value { result.now ≡ self.now.others }
         ensures ordered { IsByBytes result.now }
@@ -275,12 +278,12 @@ impl Tables {
         self.table_mut(file).push_field(field)
     }
 
-    /// The text of a file as `csv` writes it by default (RFC 4180, section 2, with LF at the end of each
-    /// record): none where the file is absent, and an empty text where it is not UTF-8.
+    /// The text of a file as `csv` writes it by default (RFC 4180, section 2, with LF at the end of
+    /// each record): none where the file is absent, and an empty text where it is not UTF-8.
     ///
-    /// Read again, the text gives the same table, if the file is UTF-8 and its very first field does not
-    /// begin with a byte order mark, which a reader would cut. A record of one empty field is written as
-    /// two quotes, and so is read back too.
+    /// Read again, the text gives the same table, if the file is UTF-8 and its very first field
+    /// does not begin with a byte order mark, which a reader would cut. A record of one empty field
+    /// is written as two quotes, and so is read back too.
     ///
     /// # Errors
     /// `OutOfMemory` where memory is refused.

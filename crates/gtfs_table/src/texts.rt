@@ -72,8 +72,8 @@ impl Texts {
         self.get(i)
     }
 
-    // The bytes from the base of a block on, and where in these the texts with the numbers from `start` to `end`
-    // begin, as far as they stand in that block.
+    // The bytes from the base of a block on, and where in these the texts with the numbers from
+    // `start` to `end` begin, as far as they stand in that block.
     #[inline(always)]
     pub(crate) fn near(&self, start: usize, end: usize) -> (&[u8], &[u16])
         requires start { start ≤ end }

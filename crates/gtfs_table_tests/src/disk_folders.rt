@@ -1,5 +1,5 @@
-//! Folders of a real file system, and of one that stands in for it. What is held of them stands in functions over any
-//! folders, which take less to prove than those that name the disk's.
+//! Folders of a real file system, and of one that stands in for it. What is held of them stands in
+//! functions over any folders, which take less to prove than those that name the disk's.
 mod odd_systems;
 mod stand_in;
 
@@ -375,8 +375,8 @@ fn a_file_of_seventy_megabytes_is_read_whole(rt: HostRuntime) -> Result<(), Fail
     Ok(())
 }
 
-// Beside a folder of files another one, with links to that folder, to a file of it, to a device and to nothing, and a
-// name that begins with a dot.
+// Beside a folder of files another one, with links to that folder, to a file of it, to a device and
+// to nothing, and a name that begins with a dot.
 fn make_links(rt: &HostRuntime, folders: &mut impl Folders, base: &str) -> Result<(), Fail> {
     let alloc = rt.alloc();
     let real = format!(in alloc; "{base}/real")?;

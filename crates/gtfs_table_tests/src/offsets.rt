@@ -1,4 +1,5 @@
-//! Records of many fields and of long ones: where their fields begin is kept in two bytes each as long as these are enough.
+//! Records of many fields and of long ones:
+//! where their fields begin is kept in two bytes each as long as these are enough.
 use crate::assertions::{assert_is, assert_is_at, assert_that};
 use gtfs_field::OutOfMemory;
 use gtfs_table::{File, FolderFault, Folders, MemoryFolders, Tables};

@@ -113,8 +113,8 @@ fn a_writer_may_be_interrupted_often(rt: HostRuntime) {
     assert_is(&rt, writer.text.as_slice(), b"departure", "bytes");
 }
 
-// Takes nothing at one call, for this fault or for none. At each call before it it takes up to four bytes, and at each
-// one after it all that it is handed.
+// Takes nothing at one call, for this fault or for none. At each call before it it takes up to four
+// bytes, and at each one after it all that it is handed.
 #[derive(Drop)]
 struct FailsOnce {
     text: Vec<u8>,
@@ -186,7 +186,8 @@ fn a_writer_may_fail_once(rt: HostRuntime) {
     }
 }
 
-// The text ends at the write that failed, though the writer would take more: nothing is handed over after it.
+// The text ends at the write that failed, though the writer would take more:
+// nothing is handed over after it.
 fn assert_ends_where_it_failed(rt: &impl Abort, alloc: Global, fault: Option<ErrorKind>) {
     for (failing, written) in [(1, 0), (2, 4), (3, 8)] {
         let mut writer = FailsOnce::new(alloc, fault, failing);

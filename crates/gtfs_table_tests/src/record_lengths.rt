@@ -1,4 +1,5 @@
-//! Records about the lengths at which they are kept in another way: 254 bytes and fields together, and 65,535 bytes.
+//! Records about the lengths at which they are kept in another way:
+//! 254 bytes and fields together, and 65,535 bytes.
 use crate::assertions::{assert_is_at, assert_that};
 use gtfs_field::OutOfMemory;
 use gtfs_table::{File, FolderFault, Folders, MemoryFolders, Tables};
@@ -29,7 +30,8 @@ fn between(alloc: Global, record: &str) -> Result<String, OutOfMemory> {
     Ok(text)
 }
 
-// The record in the middle has this many fields, the last of them of so many bytes, and the others are as they were.
+// The record in the middle has this many fields, the last of them of so many bytes,
+// and the others are as they were.
 fn assert_between(rt: &impl Abort, tables: &Tables, count: usize, length: usize) {
     let case = (count, length);
     assert_is_at(rt, tables.records(File::Trips), 3, "records", case);

@@ -1,6 +1,6 @@
 -- Rows with headsigns, and the rows of each trip that follow each other.
-use Rattle.std.proofs.Common.{◌≡◌, ◌<◌, ◌≤◌, ◌+◌, ◌-◌, ◌++◌, ◌∷◌, ◌∙◌, [], ℕ, zero, suc, List, length, map, take, drop, get_or, Option, Some, None, refl, sym, ap, subst, arith, inl, inr}
-use Rattle.std.specs.Prelude.{flat_map, nat_eq, slice_get, slice_set as set}
+use Rattle.std.proofs.Common.{false, ◌≡◌, ◌<◌, ◌≤◌, ◌+◌, ◌-◌, ◌++◌, ◌∷◌, ◌∙◌, [], ℕ, zero, suc, List, length, map, take, drop, get_or, Option, Some, None, refl, sym, ap, subst, arith, inl, inr}
+use Rattle.std.specs.Prelude.{flat_map, is_some, nat_eq, option_map, slice_get, slice_set as set}
 use Rattle.std.specs.List.{All, IsDistinct, range_with_len}
 use Rattle.std.proofs.lemmas.List.Elements.{All-drop, All-push, All-take}
 use Rattle.std.proofs.lemmas.Option.{get_or_from_slice_get, slice_get_within}
@@ -17,7 +17,7 @@ use Rattle.gtfs_field.proofs.ListFacts.{range-push}
 use Rattle.gtfs_table.specs.Parts.{parts, starts_of}
 use Rattle.gtfs_table.proofs.PartFacts.{length-parts, part-at}
 use Rattle.gtfs_trip_rules.specs.Headsigns.{named_rows, numbers_in, rows_at, rows_with, with_headsign_at}
-use Rattle.gtfs_trip_rules.specs.KeptLists.{AreRowsOf, no_row, stop_times_at}
+use Rattle.gtfs_trip_rules.specs.KeptLists.{AreRowsOf, HasNoHeadsign, no_row, stop_times_at}
 use Rattle.gtfs_trip_rules.specs.declared.trips.kept.RowNote.{RowNote}
 use Rattle.gtfs_trip_rules.specs.declared.trips.row.StopTime.{StopTime}
 
@@ -192,6 +192,46 @@ module _ (old rows : List StopRow) (order : List ℕ) (hs : List (Option ℕ)) (
       let later : at < k = omega (arith, low) in
       other row k (λ e. eqb-false (number at) (number k) (apart_from_distinct nat_eq order at k 0 once later high) (sym e))
       ∙ left k (omega (arith, low)) high
+
+  -- the same of a number that is that of the row
+  module _ (n : ℕ) (here : number at ≡ n) where
+    pub long-after : (row : StopRow) → length (set rows n row) ≡ length old
+    long-after row = subst (λ m. length (set rows m row) ≡ length old) here (still-long row)
+
+    pub named-after : (row d : StopRow) → row ≡ headed (get_or hs at None) (get_or rows n d)
+        → ((k : ℕ) → k < at → get_or rows (number k) no_row ≡ headed (get_or hs k None) (get_or old (number k) no_row))
+        → ((k : ℕ) → at ≤ k → k < length order → get_or rows (number k) no_row ≡ get_or old (number k) no_row)
+        → (k : ℕ) → k < at + 1 → get_or (set rows n row) (number k) no_row ≡ headed (get_or hs k None) (get_or old (number k) no_row)
+    named-after row d is named left k below =
+        subst (λ m. get_or (set rows m row) (number k) no_row ≡ headed (get_or hs k None) (get_or old (number k) no_row)) here
+        (named-more row d (is ∙ ap (λ m. headed (get_or hs at None) (get_or rows m d)) (sym here)) named left k below)
+
+    pub left-after : (row : StopRow)
+        → ((k : ℕ) → at ≤ k → k < length order → get_or rows (number k) no_row ≡ get_or old (number k) no_row)
+        → (k : ℕ) → at + 1 ≤ k → k < length order → get_or (set rows n row) (number k) no_row ≡ get_or old (number k) no_row
+    left-after row left k low high =
+        subst (λ m. get_or (set rows m row) (number k) no_row ≡ get_or old (number k) no_row) here (left-more row left k low high)
+
+-- ---- a row that gets none
+
+pub none-mapped : {A B : Type 0} (f : A → B) (o : Option A) → is_some o ≡ false → option_map f o ≡ None
+none-mapped f None none = refl
+none-mapped f (Some x) none = cc none
+
+pub none-named : (old rows : List StopRow) (order : List ℕ) (hs : List (Option ℕ)) (at : ℕ) → at < length order → All (λ n. n < length old) order → All HasNoHeadsign old
+    → get_or hs at None ≡ None
+    → ((k : ℕ) → k < at → get_or rows (get_or order k 0) no_row ≡ headed (get_or hs k None) (get_or old (get_or order k 0) no_row))
+    → ((k : ℕ) → at ≤ k → k < length order → get_or rows (get_or order k 0) no_row ≡ get_or old (get_or order k 0) no_row)
+    → (k : ℕ) → k < at + 1 → get_or rows (get_or order k 0) no_row ≡ headed (get_or hs k None) (get_or old (get_or order k 0) no_row)
+none-named old rows order hs at within in_rows unnamed none named left k below = elim (cases_lt k at) [
+  | inl before ↦ named k before
+  | inr from ↦
+      let same : k ≡ at = omega (arith, below, from) in
+      let row = get_or old (get_or order at 0) no_row in
+      let stays : row ≡ headed (get_or hs at None) row = ap (λ h. headed h row) (unnamed (get_or order at 0) no_row (in_rows at 0 within) ∙ sym none) in
+      ap (λ j. get_or rows (get_or order j 0) no_row) same ∙ left at (omega arith) within ∙ stays
+      ∙ ap (λ j. headed (get_or hs j None) (get_or old (get_or order j 0) no_row)) (sym same)
+]
 
 -- ---- stop times as they are kept
 

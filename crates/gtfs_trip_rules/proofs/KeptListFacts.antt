@@ -8,7 +8,7 @@ use Rattle.std.proofs.lemmas.List.Elements.{All-filter, All-push}
 use Rattle.std.proofs.lemmas.List.Sorted.{All-permutation, IsPermutation-map}
 use Rattle.std.proofs.lemmas.Option.{slice_get-get_or, slice_get-map}
 use Rattle.gtfs_stop_times.specs.declared.stop_row.StopRow.{StopRow}
-use Rattle.gtfs_trip_rules.specs.KeptLists.{no_note, no_row, noted_row, stop_time_at, stop_times_at, AreListed, KeepsBefore}
+use Rattle.gtfs_trip_rules.specs.KeptLists.{no_note, no_row, noted_row, stop_time_at, stop_times_at, AreListed, HasNoHeadsign, HoldsOldOr, KeepsBefore}
 use Rattle.gtfs_trip_rules.specs.KeptTimes.{is_placed}
 use Rattle.gtfs_trip_rules.specs.TripNotes.{AreEarlier}
 use Rattle.gtfs_trip_rules.specs.declared.trips.kept.RowNote.{RowNote}
@@ -40,6 +40,7 @@ module _ (rows : List StopRow) (notes : List RowNote) where
     placed_listed = record {
       in_rows = All-filter (λ n. is_placed (get_or notes n no_note).times) (λ n. n < length rows) order listed.in_rows;
       in_notes = All-filter (λ n. is_placed (get_or notes n no_note).times) (λ n. n < length notes) order listed.in_notes;
+      unnamed = listed.unnamed;
     }
 
     -- in another order
@@ -47,6 +48,7 @@ module _ (rows : List StopRow) (notes : List RowNote) where
     moved_listed new moved = record {
       in_rows = All-permutation (λ n. n < length rows) order new moved listed.in_rows;
       in_notes = All-permutation (λ n. n < length notes) order new moved listed.in_notes;
+      unnamed = listed.unnamed;
     }
 
   pub moved_rows : (order new : List ℕ) → IsPermutation order new → IsPermutation (stop_times_at rows notes order) (stop_times_at rows notes new)
@@ -64,15 +66,22 @@ module _ (rows : List StopRow) (notes : List RowNote) where
 pub kept_itself : {X : Type 0} (at : ℕ) (xs : List X) → KeepsBefore at xs xs
 kept_itself at xs = record { same = λ n z low within. refl; there = λ n low within. within }
 
+pub still_unnamed : (item : StopRow) (old new : List StopRow) → HoldsOldOr item old new → HasNoHeadsign item → All HasNoHeadsign old → All HasNoHeadsign new
+still_unnamed item old new held none all k d within = elim (held k d within) [
+  | inl is ↦ subst HasNoHeadsign (sym is.1) (all k d is.0)
+  | inr is ↦ subst HasNoHeadsign (sym is) none
+]
+
 module _ (rows more_rows : List StopRow) (notes more_notes : List RowNote) (at : ℕ) (order : List ℕ) (listed : AreListed rows notes order)
     (earlier : AreEarlier at (stop_times_at rows notes order)) (kept_rows : KeepsBefore at rows more_rows) (kept_notes : KeepsBefore at notes more_notes) where
   before : All (λ n. n < at) order
   before = numbers_before rows notes order at earlier
 
-  pub still_listed : AreListed more_rows more_notes order
-  still_listed = record {
+  pub still_listed : All HasNoHeadsign more_rows → AreListed more_rows more_notes order
+  still_listed unnamed = record {
     in_rows = λ k z below. kept_rows.there (get_or order k z) (before k z below) (listed.in_rows k z below);
     in_notes = λ k z below. kept_notes.there (get_or order k z) (before k z below) (listed.in_notes k z below);
+    unnamed = unnamed;
   }
 
   pub still_same : stop_times_at more_rows more_notes order ≡ stop_times_at rows notes order
@@ -80,10 +89,11 @@ module _ (rows more_rows : List StopRow) (notes more_notes : List RowNote) (at :
       (λ k z below. let n = get_or order k z in
       λ i. noted_row n (kept_rows.same n no_row (before k z below) (listed.in_rows k z below) i) (kept_notes.same n no_note (before k z below) (listed.in_notes k z below) i))
 
-  pub listed_more : at < length more_rows → at < length more_notes → AreListed more_rows more_notes (order ++ at ∷ [])
-  listed_more of_rows of_notes = record {
-    in_rows = All-push (λ n. n < length more_rows) order at still_listed.in_rows of_rows;
-    in_notes = All-push (λ n. n < length more_notes) order at still_listed.in_notes of_notes;
+  pub listed_more : All HasNoHeadsign more_rows → at < length more_rows → at < length more_notes → AreListed more_rows more_notes (order ++ at ∷ [])
+  listed_more unnamed of_rows of_notes = record {
+    in_rows = All-push (λ n. n < length more_rows) order at (still_listed unnamed).in_rows of_rows;
+    in_notes = All-push (λ n. n < length more_notes) order at (still_listed unnamed).in_notes of_notes;
+    unnamed = unnamed;
   }
 
   pub one_more : (row : StopRow) (note : RowNote) → get_or more_rows at no_row ≡ row → get_or more_notes at no_note ≡ note

@@ -36,3 +36,4 @@ mod EarlierRows
 mod JudgedRows
 mod StretchFacts
 mod TogetherRows
+pub mod RowNumberFacts

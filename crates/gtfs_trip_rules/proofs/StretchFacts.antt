@@ -17,7 +17,7 @@ use Rattle.std.proofs.lemmas.List.Elements.{All-append, All-head, All-tail}
 use Rattle.gtfs_columns.proofs.BoolFacts.{and_parts}
 use Rattle.gtfs_stop_times.specs.declared.stop_row.StopRow.{StopRow}
 use Rattle.gtfs_trip_rules.specs.KeptLists.{stop_time_at, stop_times_at}
-use Rattle.gtfs_trip_rules.specs.KeptStretches.{ascend_from, AreRising, IsStretch}
+use Rattle.gtfs_trip_rules.specs.KeptStretches.{ascend_from, numbers_of, AreRising, IsStretch}
 use Rattle.gtfs_trip_rules.specs.TripOrder.{kept_cmp}
 use Rattle.gtfs_trip_rules.specs.declared.trips.kept.RowNote.{RowNote}
 use Rattle.gtfs_trip_rules.specs.declared.trips.row.StopTime.{StopTime}
@@ -50,21 +50,21 @@ joined_sorted t xs ys first second of_trip later k d low high = elim (cases_lt (
     same : (k + 1) - (k + 1) ≡ 0
     same = omega arith
 
-module _ (rows : List StopRow) (notes : List RowNote) where
+module _ (rows : List StopRow) (notes : List RowNote) (order : List ℕ) where
   abbrev stop_time : ℕ → StopTime
   stop_time = stop_time_at rows notes
 
   abbrev numbers : List Stretch → List ℕ
-  numbers = flat_map (λ s. s.rows.now)
+  numbers = flat_map (numbers_of order)
 
-  from_least : (least : ℕ) (ss : List Stretch) → ascend_from least ss ≡ true → All (IsStretch rows notes) ss → All (λ n. least ≤ (stop_time n).trip) (numbers ss)
+  from_least : (least : ℕ) (ss : List Stretch) → ascend_from least ss ≡ true → All (IsStretch rows notes order) ss → All (λ n. least ≤ (stop_time n).trip) (numbers ss)
   from_least least [] up each = λ k n below. absurd (omega (arith, below))
   from_least least (s ∷ ss) up each =
       let parts = and_parts (nat_le least s.trip) (ascend_from (s.trip + 1) ss) up in
       let reaches : least ≤ s.trip = let first = parts.0 in grind (arith, nat_tests, first) in
-      let later = from_least (s.trip + 1) ss parts.1 (All-tail (IsStretch rows notes) s ss each) in
-      All-append (λ n. least ≤ (stop_time n).trip) s.rows.now (numbers ss)
-      (λ k n below. let is = (All-head (IsStretch rows notes) s ss each).trip k n below in omega (arith, is, reaches))
+      let later = from_least (s.trip + 1) ss parts.1 (All-tail (IsStretch rows notes order) s ss each) in
+      All-append (λ n. least ≤ (stop_time n).trip) (numbers_of order s) (numbers ss)
+      (λ k n below. let is = (All-head (IsStretch rows notes order) s ss each).trip k n below in omega (arith, is, reaches))
       (λ k n below. let is = later k n below in omega (arith, is, reaches))
 
   of_rows : (P : ℕ → Type 0) (ns : List ℕ) → All (λ n. P (stop_time n).trip) ns → All (λ r. P r.trip) (stop_times_at rows notes ns)
@@ -72,23 +72,23 @@ module _ (rows : List StopRow) (notes : List RowNote) where
       let within : k < length ns = omega (arith, below, length-map ns stop_time) in
       subst (λ (r : StopTime). P r.trip) (sym (get_or-map stop_time ns k d.row d within)) (each k d.row within)
 
-  pub stretches_sorted : (least : ℕ) (ss : List Stretch) → ascend_from least ss ≡ true → All (IsStretch rows notes) ss → IsSorted kept_cmp (stop_times_at rows notes (numbers ss))
+  pub stretches_sorted : (least : ℕ) (ss : List Stretch) → ascend_from least ss ≡ true → All (IsStretch rows notes order) ss → IsSorted kept_cmp (stop_times_at rows notes (numbers ss))
   stretches_sorted least [] up each = λ k d low high. absurd (omega (arith, high))
   stretches_sorted least (s ∷ ss) up each =
       let parts = and_parts (nat_le least s.trip) (ascend_from (s.trip + 1) ss) up in
-      let first = All-head (IsStretch rows notes) s ss each in
-      let rest = All-tail (IsStretch rows notes) s ss each in
-      subst (IsSorted kept_cmp) (sym (map-append stop_time s.rows.now (numbers ss)))
-      (joined_sorted s.trip (stop_times_at rows notes s.rows.now) (stop_times_at rows notes (numbers ss)) first.sorted (stretches_sorted (s.trip + 1) ss parts.1 rest)
-      (of_rows (λ t. t ≡ s.trip) s.rows.now first.trip) (of_rows (λ t. s.trip < t) (numbers ss) (λ k n below. let is = from_least (s.trip + 1) ss parts.1 rest k n below in omega (arith, is))))
+      let first = All-head (IsStretch rows notes order) s ss each in
+      let rest = All-tail (IsStretch rows notes order) s ss each in
+      subst (IsSorted kept_cmp) (sym (map-append stop_time (numbers_of order s) (numbers ss)))
+      (joined_sorted s.trip (stop_times_at rows notes (numbers_of order s)) (stop_times_at rows notes (numbers ss)) first.sorted (stretches_sorted (s.trip + 1) ss parts.1 rest)
+      (of_rows (λ t. t ≡ s.trip) (numbers_of order s) first.trip) (of_rows (λ t. s.trip < t) (numbers ss) (λ k n below. let is = from_least (s.trip + 1) ss parts.1 rest k n below in omega (arith, is))))
 
   -- ---- the first rows, and those after them
 
-  pub cut_further : (ss : List Stretch) (s : Stretch) (n : ℕ) (left all : List ℕ) → s.rows.now ≡ take n left → numbers ss ++ left ≡ all → numbers (ss ++ s ∷ []) ++ drop n left ≡ all
+  pub cut_further : (ss : List Stretch) (s : Stretch) (n : ℕ) (left all : List ℕ) → (numbers_of order s) ≡ take n left → numbers ss ++ left ≡ all → numbers (ss ++ s ∷ []) ++ drop n left ≡ all
   cut_further ss s n left all is before =
-      ap (λ ns. ns ++ drop n left) (flat_map-append (λ (s : Stretch). s.rows.now) ss (s ∷ []))
-      ∙ append_assoc (numbers ss) (s.rows.now ++ []) (drop n left)
-      ∙ ap (λ ns. numbers ss ++ (ns ++ drop n left)) (append-nil s.rows.now ∙ is)
+      ap (λ ns. ns ++ drop n left) (flat_map-append (numbers_of order) ss (s ∷ []))
+      ∙ append_assoc (numbers ss) ((numbers_of order s) ++ []) (drop n left)
+      ∙ ap (λ ns. numbers ss ++ (ns ++ drop n left)) (append-nil (numbers_of order s) ∙ is)
       ∙ ap (λ ns. numbers ss ++ ns) (take-append-drop n left)
       ∙ before
 
@@ -103,7 +103,7 @@ module _ (rows : List StopRow) (notes : List RowNote) where
   pub rest_rising : (n : ℕ) (ns : List ℕ) → AreRising (stop_times_at rows notes ns) → AreRising (stop_times_at rows notes (drop n ns))
   rest_rising n ns up = subst AreRising (drop-map stop_time n ns) (rising_later n (stop_times_at rows notes ns) up)
 
-  pub first_stretch : (n : ℕ) (ns : List ℕ) (s : Stretch) → s.rows.now ≡ take n ns → n ≤ length ns → AreRising (stop_times_at rows notes ns) → All (λ m. (stop_time m).trip ≡ s.trip) (take n ns) → IsStretch rows notes s
+  pub first_stretch : (n : ℕ) (ns : List ℕ) (s : Stretch) → (numbers_of order s) ≡ take n ns → n ≤ length ns → AreRising (stop_times_at rows notes ns) → All (λ m. (stop_time m).trip ≡ s.trip) (take n ns) → IsStretch rows notes order s
   first_stretch n ns s is within up of_trip = record {
     trip = subst (All (λ m. (stop_time m).trip ≡ s.trip)) (sym is) of_trip;
     sorted = subst (λ ms. IsSorted kept_cmp (stop_times_at rows notes ms)) (sym is) sorted;

@@ -1,5 +1,5 @@
 -- Stop times as they are kept: the rows of the file by their numbers, what is noted of each, and the numbers of those that are stop times.
-use Rattle.std.specs.Prelude.{◌≡◌, ◌<◌, ℕ, false, List, length, map, slice_index_or, None}
+use Rattle.std.specs.Prelude.{◌≡◌, ◌<◌, ◌⊎◌, ℕ, false, List, length, map, slice_index_or, None}
 use Rattle.std.specs.List.{All}
 use Rattle.gtfs_stop_times.specs.declared.choices.DropOffType.TheVariants as drop_off
 use Rattle.gtfs_stop_times.specs.declared.choices.PickupType.TheVariants as pickup
@@ -41,18 +41,28 @@ stop_time_at rows notes n = noted_row n (slice_index_or rows n no_row) (slice_in
 abbrev pub stop_times_at : List StopRow → List RowNote → List ℕ → List StopTime
 stop_times_at rows notes order = map (stop_time_at rows notes) order
 
+-- it has no headsign yet: what a check keeps of a row leaves it out
+abbrev pub HasNoHeadsign : StopRow → Type 0
+HasNoHeadsign r = r.stop_headsign ≡ None
+
 -- each number is that of a row
 pub record AreListed (rows : List StopRow) (notes : List RowNote) (order : List ℕ) : Type 0 where
   pub in_rows : All (λ n. n < length rows) order
   pub in_notes : All (λ n. n < length notes) order
+  pub unnamed : All HasNoHeadsign rows
 
 -- the stop times are those of these numbers, and these are their rows
 pub record AreRowsOf (ss : List StopTime) (rows : List StopRow) (order : List ℕ) : Type 0 where
   pub in_rows : All (λ n. n < length rows) order
   pub numbers : map (λ s. s.row) ss ≡ order
   pub say : map (λ s. s.stop_row) ss ≡ map (λ n. slice_index_or rows n no_row) order
+  pub unnamed : All HasNoHeadsign rows
 
 -- the items before an index stay
 pub record KeepsBefore {X : Type 0} (at : ℕ) (old new : List X) : Type 0 where
   pub same : (n : ℕ) (z : X) → n < at → n < length old → slice_index_or new n z ≡ slice_index_or old n z
   pub there : (n : ℕ) → n < at → n < length old → n < length new
+
+-- each item is the one that was there, or this one
+abbrev pub HoldsOldOr : {X : Type 0} → X → List X → List X → Type 0
+HoldsOldOr {X} item old new = (n : ℕ) (z : X) → n < length new → ((n < length old) × (slice_index_or new n z ≡ slice_index_or old n z)) ⊎ (slice_index_or new n z ≡ item)

@@ -1,8 +1,9 @@
 //! The rules about the trips of a GTFS Schedule dataset, their times, their frequencies and their
 //! services.
 //!
-//! - [`report_stop_times`] judges the rows of `stop_times.txt` in one pass, and notes what they say
-//!   of their trips ([`TripNotes`]); [`report_counts`] and [`report_order`] judge the trips by them.
+//! - [`report_stop_times`] judges the rows of `stop_times.txt` in one pass, and notes
+//!   what they say of their trips ([`TripNotes`]); [`report_counts`] and
+//!   [`report_order`] judge the trips by them.
 //! - [`report_overlaps`] judges the periods of the frequencies of a trip, and [`report_services`]
 //!   the days on which a service runs.
 //!

@@ -22,8 +22,8 @@ use trip_numbers::TripNumbers;
 /// (E19).
 ///
 /// # Errors
-/// `OutOfMemory` where the problems that were found cannot grow, or there is no room for the seconds
-/// that the trips' periods cover.
+/// `OutOfMemory` where the problems that were found cannot grow, or there is no room for the
+/// seconds that the trips' periods cover.
 pub fn report_overlaps<'a>(
     alloc: Global,
     tables: &'a Tables,

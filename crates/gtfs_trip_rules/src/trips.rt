@@ -9,4 +9,5 @@ pub(crate) mod places;
 pub(crate) mod ranks;
 pub(crate) mod row;
 pub(crate) mod row_counts;
+pub(crate) mod row_numbers;
 pub(crate) mod stretches;

@@ -12,12 +12,14 @@ use gtfs_table::File;
 // The bytes of the header of stop_times.txt.
 const HEADER: u64 = 108;
 
-// The most bytes of a row of stop_times.txt beside those of its three texts: two times (HHH:MM:SS), a sequence of ten
-// digits, three choices, eight commas and the end of the row, and the quotes around the texts.
+// The most bytes of a row of stop_times.txt beside those of its three texts: two times
+// (HHH:MM:SS), a sequence of ten digits, three choices, eight commas and the end of the row,
+// and the quotes around the texts.
 const WITHOUT_TEXTS: u128 = 2 * 9 + 10 + 3 + 8 + 1 + 3 * 2;
 
-// Whether the text of a file is surely no longer than this limit, by how many rows it has and how long their texts are at
-// the most. Only stop_times.txt is asked, which in most feeds is longer than all others together.
+// Whether the text of a file is surely no longer than this limit, by how many rows it has and
+// how long their texts are at the most. Only stop_times.txt is asked, which in most feeds is
+// longer than all others together.
 pub(crate) fn is_surely_within(parts: &Parts, file: File, limit: u64) -> bool
     requires { IsSoundParts parts.now }
     ensures { result ≡ true → is_longer (content_of_parts parts.now) limit file ≡ false }

@@ -22,7 +22,8 @@ use std::marker::Model;
 // From here on a time has more than two digits of hours.
 const HUNDRED_HOURS: u32 = 360_000;
 
-// The fields of rows as canonical texts. Long numbers are written into one buffer that is used again.
+// The fields of rows as canonical texts.
+// Long numbers are written into one buffer that is used again.
 pub(crate) struct Fields<S> {
     rows: S,
     buffer: String,

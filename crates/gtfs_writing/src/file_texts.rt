@@ -19,12 +19,14 @@ use gtfs_table::File;
 use std::alloc::Global;
 
 /// The text of one file of a feed, made without a table: it is what
-/// [`Tables::write`](gtfs_table::Tables::write) gives of that file of [`tables`](crate::tables), a comma between fields,
-/// quotes only around a field that holds a comma, a quote, CR or LF, a quote in it doubled, and LF after each record
-/// (RFC 4180, section 2; GTFS Schedule Reference, "File Requirements").
+/// [`Tables::write`](gtfs_table::Tables::write) gives of that file of
+/// [`tables`](crate::tables), a comma between fields, quotes only around a field that holds a
+/// comma, a quote, CR or LF, a quote in it doubled, and LF after each record (RFC 4180, section
+/// 2; GTFS Schedule Reference, "File Requirements").
 ///
-/// Read again, it gives the same table; a folder of all nine passes the validator and is the same feed, whatever else it
-/// holds. Memory that is refused is an error, and nothing of the text is left then.
+/// Read again, it gives the same table; a folder of all nine passes the validator and is
+/// the same feed, whatever else it holds. Memory that is refused is an error, and
+/// nothing of the text is left then.
 pub fn file_text(alloc: Global, parts: &Parts, file: File) -> Result<String, OutOfMemory>
     requires { IsSoundParts parts.now }
     ensures text { IfOk result (λ text. text_of_table
@@ -43,8 +45,9 @@ pub fn file_text(alloc: Global, parts: &Parts, file: File) -> Result<String, Out
     }
 }
 
-/// Whether the text of some file of a feed, as [`file_text`] gives it, has more bytes than this limit. No text is made:
-/// each file is counted, in one pass, unless the number of its rows and their longest texts tell already that it is short.
+/// Whether the text of some file of a feed, as [`file_text`] gives it, has more bytes than this
+/// limit. No text is made: each file is counted, in one pass, unless the number of its rows and
+/// their longest texts tell already that it is short.
 ///
 /// Memory that is refused is an error.
 pub fn has_longer_file(alloc: Global, parts: &Parts, limit: u64) -> Result<bool, OutOfMemory>

@@ -24,11 +24,12 @@ use gtfs_rows::Parts;
 use gtfs_table::{File, Tables};
 use std::alloc::Global;
 
-/// The nine files of a feed as tables: each has the header of its kept columns and a row of canonical texts for each
-/// row of the feed (GTFS Schedule Reference, "Field Definitions"). No other file is there.
+/// The nine files of a feed as tables: each has the header of its kept columns and a row
+/// of canonical texts for each row of the feed (GTFS Schedule Reference, "Field
+/// Definitions"). No other file is there.
 ///
-/// The tables pass the validator, and read back they are the same feed. Memory that is refused is an error, and nothing
-/// of the tables is left then.
+/// The tables pass the validator, and read back they are the same feed. Memory that is refused is
+/// an error, and nothing of the tables is left then.
 pub fn tables(alloc: Global, parts: &Parts) -> Result<Tables, OutOfMemory>
     requires { IsSoundParts parts.now }
     ensures tables { IfOk result (λ tables. tables ≡ written (content_of_parts parts.now)) }

@@ -1,14 +1,15 @@
-//! The written form of a feed: the nine files of a GTFS Schedule dataset, each with the header of its kept columns and a
-//! row for each row of the feed, its values as canonical texts.
+//! The written form of a feed: the nine files of a GTFS Schedule dataset, each with the header of
+//! its kept columns and a row for each row of the feed, its values as canonical texts.
 //!
 //! - [`tables`] are all nine files as tables.
-//! - [`file_text`] is the text of one, made without a table: what [`Tables::write`](gtfs_table::Tables::write) gives of
-//!   its table.
-//! - [`has_longer_file`] tells whether the text of some file is longer than a limit, and makes none.
+//! - [`file_text`] is the text of one, made without a table: what
+//!   [`Tables::write`](gtfs_table::Tables::write) gives of its table.
+//! - [`has_longer_file`] tells whether the text of some file is longer than a limit,
+//!   and makes none.
 //!
-//! What the written form of a content is stands in `specs/Written.antt` of `gtfs_rows`, and what is promised of it in
-//! `specs/WrittenForm.antt` there. `specs/Taking.antt` says how rows are taken, field by field, into a table or a
-//! text.
+//! What the written form of a content is stands in `specs/Written.antt` of `gtfs_rows`, and what is
+//! promised of it in `specs/WrittenForm.antt` there. `specs/Taking.antt` says how rows are taken,
+//! field by field, into a table or a text.
 #![tactic(auto)]
 
 mod agencies;

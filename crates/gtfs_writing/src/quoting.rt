@@ -1,7 +1,8 @@
 ghost use Rattle.std.specs.Prelude.{◌≡◌};
 ghost use Rattle.csv.specs.Writing.{default_writer, needs_byte, needs_quotes};
 
-// A field that holds what ends a field or a row, or a quote, stands in quotes (RFC 4180, section 2).
+// A field that holds what ends a field or a row, or a quote, stands in quotes (RFC 4180,
+// section 2).
 pub(crate) fn is_quoted(field: &str) -> bool
     ensures { result ≡ needs_quotes default_writer field.now }
 {

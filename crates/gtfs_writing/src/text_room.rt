@@ -1,4 +1,5 @@
-//! How much room the text of a file is likely to take, so that it is made at once and the text need not grow.
+//! How much room the text of a file is likely to take,
+//! so that it is made at once and the text need not grow.
 ghost use Rattle.std.specs.Prelude.{◌≡◌, [], IfOk};
 ghost use Rattle.gtfs_rows.specs.Views.{IsSoundParts};
 
@@ -26,7 +27,8 @@ pub(crate) fn with_room(alloc: Global, parts: &Parts, file: File) -> Result<Text
     Ok(TextRows::with_room(alloc, bytes))
 }
 
-// How many bytes to make room for. Only stop_times.txt is asked, which in most feeds is longer than all others together.
+// How many bytes to make room for.
+// Only stop_times.txt is asked, which in most feeds is longer than all others together.
 fn likely_length(alloc: Global, parts: &Parts, file: File) -> Result<usize, OutOfMemory>
     requires { IsSoundParts parts.now }
 {
@@ -36,7 +38,8 @@ fn likely_length(alloc: Global, parts: &Parts, file: File) -> Result<usize, OutO
     }
 }
 
-// As many bytes as all rows take where they are as long as those of some trips, and a thirty-second more.
+// As many bytes as all rows take where they are as long as those of some trips,
+// and a thirty-second more.
 fn likely_stop_times(alloc: Global, parts: &Parts) -> Result<usize, OutOfMemory>
     requires { IsSoundParts parts.now }
 {

@@ -10,7 +10,8 @@ use gtfs_field::OutOfMemory;
 use std::alloc::Global;
 use std::marker::Model;
 
-// Rows as the text of a file: a comma between fields, quotes only where a field needs them, and LF after each row.
+// Rows as the text of a file:
+// a comma between fields, quotes only where a field needs them, and LF after each row.
 pub(crate) struct TextRows {
     text: String,
 }
@@ -24,7 +25,8 @@ impl Model for TextRows {
 }
 
 impl TextRows {
-    // None yet, and room for a text of this many bytes. Where that is refused, the text grows as it is made.
+    // None yet, and room for a text of this many bytes.
+    // Where that is refused, the text grows as it is made.
     pub(crate) fn with_room(alloc: Global, bytes: usize) -> TextRows
         ensures { result ≡ [] }
     {

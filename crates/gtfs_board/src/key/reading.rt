@@ -22,14 +22,14 @@ pub struct KeyParts<'a> {
     pub day: &'a str,
 }
 
-/// Reads the text of a key: `@<instant>/<trip id>/<run>/<sequence>/<YYYYMMDD>`, numbers with no zero in front. The instant
-/// goes up to the first slash, and the last three parts are cut from the right, so a trip's id may hold slashes; it may
-/// also be empty.
+/// Reads the text of a key: `@<instant>/<trip id>/<run>/<sequence>/<YYYYMMDD>`, numbers with no
+/// zero in front. The instant goes up to the first slash, and the last three parts are cut from the
+/// right, so a trip's id may hold slashes; it may also be empty.
 ///
 /// # Errors
-/// `Form` where the `@` or one of four slashes is missing. Else the first fault of the instant, as of
-/// [`read_instant`], the run (`Range` above 3,599,999), the sequence (`Range` above 2,147,483,647) and the day, as of
-/// [`read_date`].
+/// `Form` where the `@` or one of four slashes is missing. Else the first fault of the instant, as
+/// of [`read_instant`], the run (`Range` above 3,599,999), the sequence (`Range` above
+/// 2,147,483,647) and the day, as of [`read_date`].
 pub fn read_key(text: &str) -> Result<Key<'_>, FieldFault>
     ensures { ReadsAs text.now result }
 {

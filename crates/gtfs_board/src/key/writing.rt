@@ -13,14 +13,16 @@ use itoa::{Buffer, write_digits};
 use jiff_core::civil::Date;
 use std::alloc::Global;
 
-// How many bytes of a key's text are not the trip's id, at most: the instant has 20, run and sequence 10 each, the
-// day 8, and one stands before each part.
+// How many bytes of a key's text are not the trip's id, at most: the instant has 20, run and
+// sequence 10 each, the day 8, and one stands before each part.
 pub(crate) const KEY_ROOM: usize = 53;
 
-/// Appends the text of a key: `@<instant>/<trip id>/<run>/<sequence>/<YYYYMMDD>`, numbers with no zero in front.
+/// Appends the text of a key:
+/// `@<instant>/<trip id>/<run>/<sequence>/<YYYYMMDD>`, numbers with no zero in front.
 ///
-/// The text reads back, by [`read_key`](crate::read_key), to the key where its instant has at most 12 digits, its run is
-/// at most 3,599,999 and its sequence at most 2,147,483,647, as those of all departures are.
+/// The text reads back, by [`read_key`](crate::read_key), to the key where its instant has
+/// at most 12 digits, its run is at most 3,599,999 and its sequence at most 2,147,483,647,
+/// as those of all departures are.
 ///
 /// # Errors
 /// `OutOfMemory` where the text cannot grow; it is then as it was.

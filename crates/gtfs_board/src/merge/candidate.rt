@@ -44,7 +44,8 @@ impl Candidate {
         other.cmp(self).is_lt()
     }
 
-    // The order of the departures: by instant, trip, run, sequence and day. It is the order of their keys.
+    // The order of the departures: by instant, trip, run, sequence and day.
+    // It is the order of their keys.
     fn cmp_departure(&self, other: &Candidate) -> Ordering
         ensures value { result ≡ departure_cmp self.now other.now }
         ensures as_keys { ComparesAsKeys self.now other.now result }

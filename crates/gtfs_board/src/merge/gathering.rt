@@ -204,8 +204,9 @@ fn earliest(day: i32) -> i64
     i64::from(day) * SECONDS_OF_DAY - ORIGIN_DISTANCE
 }
 
-// The first day from a first one on that can hold an event at or above an instant, where `latest` is how long after the
-// origin of its day an event may come: the one after the last where there is none.
+// The first day from a first one on that can hold an event at or above an instant,
+// where `latest` is how long after the origin of its day an event may come: the one
+// after the last where there is none.
 pub(super) fn first_due(first: i32, last: i32, start: i64, latest: u32) -> i32
     requires low { negsuc 2_999_999 ≤ℤ first }
     requires to { first ≤ℤ last }

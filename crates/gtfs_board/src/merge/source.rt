@@ -76,8 +76,8 @@ pub trait Source {
         requires to { day ≤ℤ last self.now }
         ensures { IfOk result (λ o. o ≡ origins self.now day) };
 
-    // Whether a lane tells events on a service day, which is told of the lane before it: lanes of one service stand
-    // together, so that most services are asked once.
+    // Whether a lane tells events on a service day, which is told of the lane before it: lanes of
+    // one service stand together, so that most services are asked once.
     fn serves(&self, lane: usize, day: i32, before: bool) -> bool
         requires inside { lane < count self.now }
         requires from { first self.now ≤ℤ day }
@@ -86,8 +86,8 @@ pub trait Source {
         ensures value { result ≡ serves self.now lane day }
         ensures idle { result ≡ false → events self.now lane day ≡ [] };
 
-    // The first event of a lane above a floor, on a service day with this origin on which it tells events. The floor lies
-    // on an earlier day or belongs to no lane. It may ask the lane once.
+    // The first event of a lane above a floor, on a service day with this origin on which it tells
+    // events. The floor lies on an earlier day or belongs to no lane. It may ask the lane once.
     fn head(
         &self,
         lane: usize,

@@ -15,7 +15,8 @@ use gtfs_rows::{Frequency, StopRow, TripNo};
 use gtfs_runs::Feed;
 use std::alloc::Global;
 
-// A run of a trip. The order of the fields is that of the runs of a sheet: trips are numbered by the bytes of their ids.
+// A run of a trip. The order of the fields is that of the runs of a sheet:
+// trips are numbered by the bytes of their ids.
 #[derive(Clone, Copy, PartialEq, Eq, PartialOrd, Ord)]
 pub(super) struct Column {
     // The second of the service day at which the run starts.

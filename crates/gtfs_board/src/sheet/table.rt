@@ -18,12 +18,14 @@ use gtfs_rows::{RouteNo, StopNo};
 use gtfs_runs::{Feed, Pattern, Times, patterns};
 use std::alloc::Global;
 
-/// The timetable of a route on a day: a sheet for each direction and list of stops along which a trip of the route runs on
-/// that day, by direction, none before 0 and 0 before 1, and then by the ids of the stops. With a direction given only the
-/// trips count that have this one. Under [`Times::Interpolated`] the times are those of trips whose stop times are filled at
-/// an even pace; which runs there are, and when they start, is the same under both.
+/// The timetable of a route on a day: a sheet for each direction and list of stops along which a
+/// trip of the route runs on that day, by direction, none before 0 and 0 before 1, and then by the
+/// ids of the stops. With a direction given only the trips count that have this one. Under
+/// [`Times::Interpolated`] the times are those of trips whose stop times are filled at an even
+/// pace; which runs there are, and when they start, is the same under both.
 ///
-/// GTFS Schedule Reference, `trips.txt`, `stop_times.txt`, `frequencies.txt`, `calendar.txt` and `calendar_dates.txt`.
+/// GTFS Schedule Reference, `trips.txt`, `stop_times.txt`, `frequencies.txt`,
+/// `calendar.txt` and `calendar_dates.txt`.
 ///
 /// # Errors
 /// `UnknownRoute`, judged first, exactly where the feed has no such route, and `OutOfMemory`.

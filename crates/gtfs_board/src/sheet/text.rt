@@ -9,9 +9,10 @@ use gtfs_field::{Clock, OutOfMemory, push_date, push_time};
 use itoa::Buffer;
 use std::alloc::Global;
 
-/// Appends the text of a sheet. Its first line is `== `, the route's id, the direction and the date YYYYMMDD; the next is
-/// `trip` and the trip of each run; then for each stop time its stop and the time of each run. One space parts the fields of
-/// the first line, one tab those of the others. A direction or a time that is missing is `-`; times go up to 1999:59:57.
+/// Appends the text of a sheet. Its first line is `== `, the route's id, the direction and the date
+/// YYYYMMDD; the next is `trip` and the trip of each run; then for each stop time its stop and the
+/// time of each run. One space parts the fields of the first line, one tab those of the others. A
+/// direction or a time that is missing is `-`; times go up to 1999:59:57.
 ///
 /// # Errors
 /// `OutOfMemory` where the text cannot grow; it is then as it was.

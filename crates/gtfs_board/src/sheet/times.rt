@@ -74,7 +74,8 @@ fn times_at(
     Ok(List::new(times))
 }
 
-// When a run passes the stop time of this position among those of its trip, None where that is untimed.
+// When a run passes the stop time of this position among those of its trip,
+// None where that is untimed.
 fn time_at(feed: &Feed, column: Column, position: usize) -> Option<Clock>
     requires { IsShownAlong feed.now (position + 1) column }
     ensures { result ≡ time_of_column (content_of_parts feed.now) position column }

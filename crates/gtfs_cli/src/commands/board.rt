@@ -20,9 +20,9 @@ use std::alloc::Global;
 use std::hash::RandomState;
 
 // Prints the board that the words ask for.
-// Errors: In the order in which they are judged: `BadValue`; `NotThere`, `Unreadable`, `OverLimit` and `HasErrors` of
-// the feed's folder; the first three and `NoZone` of the zone file; `UnknownStop`; `UntilBeforeFrom`; `OutputFailed` at
-// any line. `OutOfMemory` at any point.
+// Errors: In the order in which they are judged: `BadValue`; `NotThere`, `Unreadable`, `OverLimit`
+// and `HasErrors` of the feed's folder; the first three and `NoZone` of the zone file;
+// `UnknownStop`; `UntilBeforeFrom`; `OutputFailed` at any line. `OutOfMemory` at any point.
 pub(super) fn print_board<'w, F: Folders, O: Out>(
     alloc: Global,
     random: RandomState,
@@ -58,8 +58,8 @@ pub(super) fn print_board<'w, F: Folders, O: Out>(
     print_lines(alloc, &feed, &zone, words, &values, out)
 }
 
-// Prints the board of a feed in a zone: a page of as many lines as are asked for, each sent out whole before the next
-// is looked for.
+// Prints the board of a feed in a zone: a page of as many lines as are asked for, each sent out
+// whole before the next is looked for.
 fn print_lines<'w, O: Out>(
     alloc: Global,
     feed: &Feed,

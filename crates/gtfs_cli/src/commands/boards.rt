@@ -31,9 +31,10 @@ use std::alloc::Global;
 use std::hash::RandomState;
 
 // Prints the boards that the file of requests of the words asks for.
-// Errors: In the order in which they are judged: `NotThere`, `Unreadable`, `OverLimit` and `HasErrors` of the feed's
-// folder; the first three and `NoZone` of the zone file; the first three of the file of requests; `Line` of the first line
-// that is refused; `OutputFailed` at any board. `OutOfMemory` at any point.
+// Errors: In the order in which they are judged: `NotThere`, `Unreadable`, `OverLimit` and
+// `HasErrors` of the feed's folder; the first three and `NoZone` of the zone file; the first
+// three of the file of requests; `Line` of the first line that is refused; `OutputFailed` at any
+// board. `OutOfMemory` at any point.
 pub(super) fn print_boards<'w, F: Folders, O: Out>(
     alloc: Global,
     random: RandomState,
@@ -200,7 +201,8 @@ fn print_request<'w, O: Out>(
     print_opened(alloc, &mut board, request, out)
 }
 
-// The board of a request, whose line was judged: its stop is known, and it does not end before it begins.
+// The board of a request, whose line was judged:
+// its stop is known, and it does not end before it begins.
 fn open<'a>(
     alloc: Global,
     index: &StopIndex<'a>,

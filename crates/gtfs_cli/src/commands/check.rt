@@ -19,10 +19,10 @@ use gtfs_rules::{Problem, check};
 use gtfs_table::{Folders, Out};
 use std::alloc::Global;
 
-// Prints the report of the feed in a folder: a line for each of its problems, and one with their counts. Answers whether
-// one of them is an error.
-// Errors: `NotThere`, `Unreadable` and `OverLimit` of the folder, `OutputFailed` at any line, and `OutOfMemory` at any
-// point.
+// Prints the report of the feed in a folder: a line for each of its problems, and one with their
+// counts. Answers whether one of them is an error.
+// Errors: `NotThere`, `Unreadable` and `OverLimit` of the folder, `OutputFailed` at any line,
+// and `OutOfMemory` at any point.
 pub(super) fn print_report<'w, F: Folders, O: Out>(
     alloc: Global,
     dir: &'w str,
@@ -55,8 +55,8 @@ pub(super) fn print_report<'w, F: Folders, O: Out>(
     print_problems(alloc, report.problems(), out)
 }
 
-// Prints the problems of a report, each line sent out whole before the next is made, and their counts. Answers whether
-// one of them is an error.
+// Prints the problems of a report, each line sent out whole before the next is made, and their
+// counts. Answers whether one of them is an error.
 fn print_problems<'w, O: Out>(
     alloc: Global,
     problems: &[Problem<'_>],

@@ -11,8 +11,8 @@ use crate::commands::refusal::Refusal;
 use gtfs_table::Folders;
 use std::alloc::Global;
 
-// The bytes of the file of a path, no more than the folders' limit. A path that ends in `/` names no file.
-// Errors: `NotThere`, `Unreadable`, `OverLimit` and `OutOfMemory`.
+// The bytes of the file of a path, no more than the folders' limit. A path that ends in `/` names
+// no file. Errors: `NotThere`, `Unreadable`, `OverLimit` and `OutOfMemory`.
 pub(super) fn read_file<'w, F: Folders>(
     alloc: Global,
     folders: &mut F,

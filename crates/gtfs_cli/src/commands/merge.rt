@@ -26,11 +26,12 @@ use gtfs_table::{File, FolderFault, Folders, Out};
 use std::alloc::Global;
 use std::hash::RandomState;
 
-// Merges the feeds of two folders, writes the files of the merged feed into a third folder, which may be one of the two,
-// and then prints the report of the merge.
-// Errors: In the order in which they are judged: `BadValue`; `NotThere`, `Unreadable`, `OverLimit` and `HasErrors` of the
-// first folder, and then of the second; `ZonesDiffer`; `MergeTooLarge`; `Unwritable` at any file; `OutputFailed` at any line.
-// `OutOfMemory` at any point. Files that were written stay.
+// Merges the feeds of two folders, writes the files of the merged feed into a third folder, which
+// may be one of the two, and then prints the report of the merge.
+// Errors: In the order in which they are judged: `BadValue`; `NotThere`, `Unreadable`,
+// `OverLimit` and `HasErrors` of the first folder, and then of the second; `ZonesDiffer`;
+// `MergeTooLarge`; `Unwritable` at any file; `OutputFailed` at any line. `OutOfMemory` at any
+// point. Files that were written stay.
 pub(super) fn print_merge<'w, F: Folders, O: Out>(
     alloc: Global,
     random: RandomState,
@@ -97,7 +98,8 @@ fn merge_folders<'w, F: Folders>(
     merge_feeds(alloc, random, a, b, values)
 }
 
-// The merge of two feeds, which are let go. A file that is written may have as many bytes as one that a disk's folder holds to be read.
+// The merge of two feeds, which are let go. A file that is written may have as many bytes as one
+// that a disk's folder holds to be read.
 fn merge_feeds<'w>(
     alloc: Global,
     random: RandomState,
@@ -127,8 +129,8 @@ fn merge_feeds<'w>(
     }
 }
 
-// Writes the nine files of a feed in order, the text of each given up before the next is made. An empty text names no
-// folder.
+// Writes the nine files of a feed in order, the text of each given up before the next is made.
+// An empty text names no folder.
 fn write_feed<'w, F: Folders>(
     alloc: Global,
     feed: &Feed,

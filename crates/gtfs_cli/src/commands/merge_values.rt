@@ -13,7 +13,8 @@ use gtfs_field::{Day, read_count};
 pub(super) struct MergeValues {
     // Up to how many millionths of a degree apart stops become one, if they do.
     pub(super) near: Option<u32>,
-    // The service day from which the second feed counts, and the first one before it, if there is one.
+    // The service day from which the second feed counts, and the first one before it,
+    // if there is one.
     pub(super) cutoff: Option<Day>,
 }
 

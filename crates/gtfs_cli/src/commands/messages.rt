@@ -12,7 +12,8 @@ use gtfs_table::{Out, OutFault, write_text};
 use itoa::Buffer;
 
 impl Refusal<'_> {
-    // Writes what is told of the refusal: `clap`'s text, or a line that begins `gtfs: `. It takes no memory.
+    // Writes what is told of the refusal: `clap`'s text, or a line that begins `gtfs: `.
+    // It takes no memory.
     pub(super) fn write<E: Out>(&self, err: &mut E) -> Result<(), OutFault>
         ensures whole { OnOk result (Appends (E.told err.old) (E.told err.new) (message self.now)) }
         ensures cut_short { OnErr result (SendsBeginning (E.told err.old) (E.told err.new)
@@ -32,8 +33,9 @@ impl Refusal<'_> {
         }
     }
 
-    // The two texts of the line, after `gtfs: `, where neither is made: for refused words `clap`'s text stands in place of a line,
-    // and the number of a line of a file of requests is written by `write`.
+    // The two texts of the line, after `gtfs: `, where neither is made: for refused words
+    // `clap`'s text stands in place of a line, and the number of a line of a file of
+    // requests is written by `write`.
     fn line_texts(&self) -> (&str, &str)
         ensures { HasLine self.now result.0.now result.1.now }
     {
@@ -72,7 +74,8 @@ fn write_line<E: Out>(err: &mut E, first: &str, second: &str) -> Result<(), OutF
     write_text(err, b"\n")
 }
 
-// A text with a space in place of each control character, so that it cannot end the line or move the cursor.
+// A text with a space in place of each control character,
+// so that it cannot end the line or move the cursor.
 fn write_shown<E: Out>(err: &mut E, text: &[u8]) -> Result<(), OutFault>
     ensures whole { OnOk result (Appends (E.told err.old) (E.told err.new) (plain text.now)) }
     ensures cut_short { OnErr result (SendsBeginning (E.told err.old) (E.told err.new)

@@ -18,8 +18,8 @@ pub(super) enum Moment {
     ServiceDay(Day),
 }
 
-// Reads the value of `--from` or `--until`: `@` and an instant, or a service day YYYYMMDD. None where the text is
-// neither.
+// Reads the value of `--from` or `--until`: `@` and an instant, or a service day YYYYMMDD.
+// None where the text is neither.
 pub(super) fn read_moment(text: &str) -> Option<Moment>
     ensures value { result ≡ moment_of text.now }
     ensures sound { IfSome result IsSound }

@@ -13,8 +13,8 @@ use gtfs_merge::{Kind, Names, Side};
 use gtfs_table::Out;
 use std::alloc::Global;
 
-// Prints what the ids of two feeds became, how many are joined and, if this was asked for, how many stops are near, each
-// line sent out whole before the next is made.
+// Prints what the ids of two feeds became, how many are joined and, if this was asked for, how many
+// stops are near, each line sent out whole before the next is made.
 // Errors: `OutputFailed` at any line, and `OutOfMemory` at any point.
 pub(super) fn print_names<'w, O: Out>(
     alloc: Global,

@@ -2,7 +2,8 @@ ghost use Rattle.std.specs.Prelude.{◌≡◌};
 ghost use Rattle.gtfs_cli.specs.Messages.{request_line, request_text};
 ghost use Rattle.gtfs_cli.specs.Refusals.{request_status};
 
-// What is the matter with the first line of a file of requests that is refused, with the number of the line, from 1.
+// What is the matter with the first line of a file of requests that is refused,
+// with the number of the line, from 1.
 #[derive(Clone, Copy)]
 pub(super) enum RequestFault {
     // It has too few or too many fields, or a bad value.

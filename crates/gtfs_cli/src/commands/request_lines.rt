@@ -8,7 +8,8 @@ use std::alloc::Global;
 // U+FEFF in UTF-8.
 const MARK: [u8; 3] = [0xEF, 0xBB, 0xBF];
 
-// The text of a file of requests of these bytes, past the byte order marks at its beginning. None where it is not UTF-8.
+// The text of a file of requests of these bytes, past the byte order marks at its beginning.
+// None where it is not UTF-8.
 pub(super) fn text_of(bytes: &[u8]) -> Option<&str>
     ensures text { IfSome result (λ text. text.now ≡ without_marks bytes.now) }
     ensures utf8 { IfSome result (λ _. IsUtf8 (without_marks bytes.now)) }

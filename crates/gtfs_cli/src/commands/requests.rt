@@ -95,7 +95,8 @@ fn lies_before(alloc: Global, zone: &Zone, values: &Values<'_>) -> Result<bool, 
     Ok(until < from)
 }
 
-// What a line asks for. None where it has too few or too many fields, or a bad value, so also where it is empty.
+// What a line asks for.
+// None where it has too few or too many fields, or a bad value, so also where it is empty.
 pub(super) fn read_request<'w>(line: &'w str, times: Times) -> Option<LineRequest<'w>>
     ensures request { option_map stop_request_of result ≡ stop_request times line.now }
     ensures times { IfSome result (λ q. q.values.times ≡ times) }

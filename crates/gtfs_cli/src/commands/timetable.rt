@@ -25,8 +25,9 @@ use std::alloc::Global;
 use std::hash::RandomState;
 
 // Prints the timetable that the words ask for.
-// Errors: In the order in which they are judged: `BadValue`; `NotThere`, `Unreadable`, `OverLimit` and `HasErrors` of the
-// folder; `UnknownRoute`; `OutputFailed` at any sheet. `OutOfMemory` at any point.
+// Errors: In the order in which they are judged: `BadValue`; `NotThere`, `Unreadable`,
+// `OverLimit` and `HasErrors` of the folder; `UnknownRoute`; `OutputFailed` at any
+// sheet. `OutOfMemory` at any point.
 pub(super) fn print_timetable<'w, F: Folders, O: Out>(
     alloc: Global,
     random: RandomState,

@@ -11,12 +11,12 @@ use gtfs_field::OutOfMemory;
 use gtfs_rules::Problem;
 use itoa::Buffer;
 
-// How many bytes of a line are neither a name nor a text of the code, at most: the row has 20, a dash for no column
-// one, and one stands after each part.
+// How many bytes of a line are neither a name nor a text of the code, at most: the row has 20, a
+// dash for no column one, and one stands after each part.
 const LINE_ROOM: usize = 26;
 
-// Appends the line of a problem: `CODE FILE:ROW COLUMN TEXT` and a line feed, with a dash for no column and a space for
-// each control character of a name.
+// Appends the line of a problem: `CODE FILE:ROW COLUMN TEXT` and a line feed, with a dash for no
+// column and a space for each control character of a name.
 // Errors: `OutOfMemory` where the text cannot grow; it is then as it was.
 pub(crate) fn push_problem(text: &mut String, problem: &Problem<'_>) -> Result<(), OutOfMemory>
     ensures appended { OnOk result (string_bytes text.new ≡ string_bytes text.old ++ problem_line

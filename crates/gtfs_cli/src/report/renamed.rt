@@ -18,8 +18,8 @@ const COUNT_ROOM: usize = 29;
 // How many bytes the line of near stops has, at most.
 const NEAR_ROOM: usize = 31;
 
-// Appends the line of an id that changes: `SIDE KIND OLD NEW`, with tabs, and a line feed. Control characters of the ids
-// are spaces.
+// Appends the line of an id that changes: `SIDE KIND OLD NEW`, with tabs, and a line feed. Control
+// characters of the ids are spaces.
 // Errors: `OutOfMemory` where the text cannot grow; it is then as it was.
 pub(crate) fn push_renamed(
     text: &mut String,

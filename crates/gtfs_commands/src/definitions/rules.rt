@@ -42,7 +42,8 @@ pub(super) fn described<'w>(
     Command::new(alloc, name).about(about).override_usage(usage)
 }
 
-// The command, if it was made, with one more text that must be given, known by its position among the words.
+// The command, if it was made, with one more text that must be given,
+// known by its position among the words.
 pub(super) fn with_word<'w>(
     command: Result<Command<'w>, OutOfMemory>,
     alloc: Global,
@@ -55,7 +56,8 @@ pub(super) fn with_word<'w>(
     command?.arg(needed_word(alloc, id, help))
 }
 
-// The command, if it was made, with one more text that must be given after `--id`; help names the text `value`.
+// The command, if it was made, with one more text that must be given after `--id`;
+// help names the text `value`.
 pub(super) fn with_option<'w>(
     command: Result<Command<'w>, OutOfMemory>,
     alloc: Global,
@@ -69,7 +71,8 @@ pub(super) fn with_option<'w>(
     command?.arg(needed_option(alloc, id, value, help))
 }
 
-// The command, if it was made, with one more text that may be given after `--id`; help names the text `value`.
+// The command, if it was made, with one more text that may be given after `--id`;
+// help names the text `value`.
 pub(super) fn with_choice<'w>(
     command: Result<Command<'w>, OutOfMemory>,
     alloc: Global,

@@ -49,7 +49,8 @@ impl Asked<'_> {
         false
     }
 
-    // The row is the first of its service, all of whose rows are sound and none of whose days is active.
+    // The row is the first of its service,
+    // all of whose rows are sound and none of whose days is active.
     fn never_runs(self) -> bool {
         let is_calendar = self.file == File::Calendar || self.file == File::CalendarDates;
         let Some(id) = service_of(self.tables, self.file, self.row) else {

@@ -69,7 +69,8 @@ fn is_missing(tables: &Tables, file: File) -> bool {
     }
 }
 
-// Whether a needed file has no record (reported at row 0), or agency.txt has a header alone (reported at row 1).
+// Whether a needed file has no record (reported at row 0),
+// or agency.txt has a header alone (reported at row 1).
 fn is_bare(tables: &Tables, file: File, row: usize) -> bool {
     let records = tables.records(file);
     is_needed(file)

@@ -49,7 +49,8 @@ impl Asked<'_> {
         }
     }
 
-    // No row of the trip stands before this one, or of the rows with the greatest sequence it is the first.
+    // No row of the trip stands before this one,
+    // or of the rows with the greatest sequence it is the first.
     fn is_untimed_end(self) -> bool {
         let Some(own) = order(self.tables, self.row) else {
             return false;

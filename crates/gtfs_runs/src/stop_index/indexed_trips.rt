@@ -76,7 +76,8 @@ fn trips_of(
     Ok((trips, indexed))
 }
 
-// The trips with the numbers of their groups, of trips that are sorted by group: how many come before the first of the group.
+// The trips with the numbers of their groups, of trips that are sorted by group: how many come
+// before the first of the group.
 fn with_groups(
     sorted: &[GroupedTrip<'_>],
     mut trips: Vec<IndexedTrip>,

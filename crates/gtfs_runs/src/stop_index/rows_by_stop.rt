@@ -10,7 +10,8 @@ use gtfs_times::Times;
 use std::alloc::Global;
 use std::marker::Model;
 
-// The departure rows of a feed by stop: for each stop those at the stop itself, whatever its parent.
+// The departure rows of a feed by stop:
+// for each stop those at the stop itself, whatever its parent.
 #[derive(Drop)]
 pub(crate) struct RowsByStop {
     at_stops: Vec<Vec<DepartureRow>>,

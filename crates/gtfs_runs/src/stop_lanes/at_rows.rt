@@ -57,8 +57,8 @@ pub(crate) fn passings_at(
     Ok(passings)
 }
 
-// Adds the passings at these departure rows, whose times are as given. The stop times lie far apart. As little is done
-// between two of them, a processor fetches several at once.
+// Adds the passings at these departure rows, whose times are as given. The stop times lie far
+// apart. As little is done between two of them, a processor fetches several at once.
 fn push_given(
     feed: &Feed,
     trips: &[IndexedTrip],

@@ -13,9 +13,10 @@ use gtfs_rows::{ServiceNo, TripNo};
 
 // An event of a trip without frequencies.
 //
-// Its lane is that of its course: the group of the trip and the position of the stop time. The order of the fields is that of
-// lanes, and in a lane that of events, since the trip decides between those at one second. The
-// service comes last, where it decides nothing: the events of a trip have one.
+// Its lane is that of its course: the group of the trip and the position of the stop time.
+// The order of the fields is that of lanes, and in a lane that of events, since the trip
+// decides between those at one second. The service comes last, where it decides nothing:
+// the events of a trip have one.
 #[derive(Clone, Copy, PartialEq, Eq, PartialOrd, Ord)]
 pub(crate) struct Listed {
     // The number of the group, by which groups are compared; 0 until it is known.

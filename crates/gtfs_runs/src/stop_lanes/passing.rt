@@ -18,7 +18,8 @@ use gtfs_rows::{StopRow, TripNo};
 use gtfs_times::{Times, filled, is_to_fill};
 use std::alloc::Global;
 
-// A stop time at which riders can leave the place of a stop, and how many seconds after its start a run passes it.
+// A stop time at which riders can leave the place of a stop,
+// and how many seconds after its start a run passes it.
 #[derive(Clone, Copy)]
 pub(crate) struct Passing {
     pub(crate) after: u32,

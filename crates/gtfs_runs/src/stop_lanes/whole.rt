@@ -58,7 +58,8 @@ pub(crate) fn whole_in_index(
     in_lanes(alloc, index.feed(), stop, index.times(), listed, periods)
 }
 
-// What leaves the place of a stop of the feed, in lanes, where the groups of trips have their numbers.
+// What leaves the place of a stop of the feed, in lanes,
+// where the groups of trips have their numbers.
 fn in_lanes(
     alloc: Global,
     feed: &Feed,

@@ -1,4 +1,5 @@
-//! Folders of a file system that stands in for the real one: what it refuses, lists and gives is up to the test.
+//! Folders of a file system that stands in for the real one:
+//! what it refuses, lists and gives is up to the test.
 use super::make_folder;
 use super::stand_in::{Call, Counts, Drip, StandIn};
 use crate::assertions::{assert_is, assert_is_at};
@@ -22,7 +23,8 @@ fn faults_of(alloc: Global, folders: &mut impl Folders) -> (Faults, u64) {
     (faults, folders.failures())
 }
 
-// Where a call is refused for this reason, the faults, how many calls failed, and the counts of the system.
+// Where a call is refused for this reason, the faults, how many calls failed,
+// and the counts of the system.
 fn refusals(rt: HostRuntime, call: Call, kind: ErrorKind) -> (Faults, u64, [u64; 5]) {
     let counts = Counts::new();
     let system = StandIn {
@@ -39,9 +41,10 @@ const WRITE: Option<FolderFault> = Some(FolderFault::Write);
 
 const MEMORY: Option<FolderFault> = Some(FolderFault::OutOfMemory);
 
-// What is told where a call is refused for this reason, how many calls failed, and how often the folder is listed and
-// files are opened, read, made and written. Nothing is told as absent or as too large: what can be looked at is there. A file is made where
-// none is found, and memory is wanted of listings alone. No call is made again.
+// What is told where a call is refused for this reason, how many calls failed, and how often the
+// folder is listed and files are opened, read, made and written. Nothing is told as absent or as
+// too large: what can be looked at is there. A file is made where none is found, and memory is
+// wanted of listings alone. No call is made again.
 fn wanted(call: Call, kind: ErrorKind) -> (Faults, u64, [u64; 5]) {
     let all = [1, 1, 6, 1, 1];
     match (call, kind) {
@@ -105,7 +108,8 @@ fn a_pipe_is_never_opened(rt: HostRuntime) {
     );
 }
 
-// What is told of a write to a file that takes so many bytes a call, and how often it is made and written.
+// What is told of a write to a file that takes so many bytes a call,
+// and how often it is made and written.
 fn written_by(rt: HostRuntime, takes: usize) -> (Option<FolderFault>, [u64; 5]) {
     let counts = Counts::new();
     let file = Drip {
@@ -183,7 +187,8 @@ fn a_million_entries_are_listed_and_no_more(rt: HostRuntime) {
     assert_is(&rt, more, (Err(FolderFault::Read), 1), "one more");
 }
 
-// Whether a stand-in's file is read as the bytes that are left of it, within a limit, and after how many reads.
+// Whether a stand-in's file is read as the bytes that are left of it, within a limit,
+// and after how many reads.
 fn read_drip(
     rt: HostRuntime,
     limit: u64,

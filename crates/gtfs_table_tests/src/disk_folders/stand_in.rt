@@ -1,5 +1,5 @@
-//! A file system that stands in for the real one. It has one folder, f1, with one file or none, and every call on it can
-//! fail. It counts what is listed, opened, made, read and written.
+//! A file system that stands in for the real one. It has one folder, f1, with one file or none, and
+//! every call on it can fail. It counts what is listed, opened, made, read and written.
 ghost use Rattle.std.specs.Prelude.{IsErr};
 
 use std::alloc::{Allocator, Global};
@@ -149,8 +149,8 @@ pub(super) struct Entries {
     fault: Option<ErrorKind>,
 }
 
-/// Gives its bytes one a read, and takes some of what is written. After the bytes, or in the place of taking some, it
-/// answers by its fault, where it has one.
+/// Gives its bytes one a read, and takes some of what is written. After the bytes, or in the place
+/// of taking some, it answers by its fault, where it has one.
 #[derive(Clone, Copy)]
 pub(super) struct Drip<'a> {
     pub(super) rt: HostRuntime,

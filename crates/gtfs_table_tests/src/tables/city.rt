@@ -48,7 +48,8 @@ fn fault_of(alloc: Global, folders: &mut MemoryFolders, dir: &str) -> Option<Fol
     Tables::read(alloc, folders, dir).err()
 }
 
-// Of the calls of a reading, one for the names and one for each kept file, the one with the number fails.
+// Of the calls of a reading, one for the names and one for each kept file,
+// the one with the number fails.
 #[test]
 fn each_device_call_fails_in_turn(rt: HostRuntime) -> Result<(), Fail> {
     for number in 1..12 {
@@ -75,7 +76,8 @@ fn long_text(alloc: Global) -> Result<Vec<u8>, OutOfMemory> {
     Ok(long)
 }
 
-// A file of the city is over the limit, and a call fails: which fault is told, and how many calls failed.
+// A file of the city is over the limit, and a call fails:
+// which fault is told, and how many calls failed.
 fn first_fault(
     alloc: Global,
     file: File,

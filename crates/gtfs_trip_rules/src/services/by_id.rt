@@ -7,7 +7,8 @@ use gtfs_table::{File, Tables};
 use std::alloc::Global;
 use std::marker::Model;
 
-/// The rows of a file by the ids of one of its columns: those with one id stand in the order of the file.
+/// The rows of a file by the ids of one of its columns:
+/// those with one id stand in the order of the file.
 #[derive(Drop)]
 pub struct RowsById<'a> {
     rows: Vec<(&'a str, usize)>,
@@ -25,7 +26,8 @@ impl<'a> Model for RowsById<'a> {
 }
 
 impl<'a> RowsById<'a> {
-    /// The rows of a file of these tables, by the ids of the column with this index. They borrow the ids from the tables.
+    /// The rows of a file of these tables, by the ids of the column with this index.
+    /// They borrow the ids from the tables.
     ///
     /// # Errors
     /// `OutOfMemory` where the list of rows cannot grow, or there is no room to sort it.

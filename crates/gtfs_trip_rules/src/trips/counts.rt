@@ -15,8 +15,8 @@ use gtfs_columns::{Code, FileName, Found, Problem, values};
 use gtfs_field::OutOfMemory;
 use gtfs_table::{File, Tables};
 
-/// Reports each row of `trips.txt` whose trip has fewer than two rows in `stop_times.txt` (W06). The
-/// notes are those of these tables.
+/// Reports each row of `trips.txt` whose trip has fewer than two rows in `stop_times.txt` (W06).
+/// The notes are those of these tables.
 ///
 /// # Errors
 /// `OutOfMemory` where the problems that were found cannot grow.

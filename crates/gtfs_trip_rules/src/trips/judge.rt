@@ -119,7 +119,8 @@ impl Judge {
         }
     }
 
-    // Whether a row is not late, and where a trip begins with it that trip and the one before have times at their ends.
+    // Whether a row is not late,
+    // and where a trip begins with it that trip and the one before have times at their ends.
     #[inline(always)]
     fn fits(&self, row: &StopTime) -> bool
         ensures { result ≡ fits self.now.last row.now }

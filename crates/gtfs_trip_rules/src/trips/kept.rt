@@ -1,6 +1,6 @@
 ghost use Rattle.std.specs.Prelude.{◌≡◌, ◌<◌, ◌∷◌, ◌++◌, [], filter, length, slice_get, slice_index_or, IfOk, IsPermutation, OnErr, OnOk, Some};
 ghost use Rattle.std.specs.List.Sorted.{IsSorted};
-ghost use Rattle.gtfs_trip_rules.specs.KeptLists.{no_note, AreRowsOf, KeepsBefore};
+ghost use Rattle.gtfs_trip_rules.specs.KeptLists.{no_note, AreRowsOf, HasNoHeadsign, HoldsOldOr, KeepsBefore};
 ghost use Rattle.gtfs_trip_rules.specs.KeptStretches.{AreRising};
 ghost use Rattle.gtfs_trip_rules.specs.KeptTimes.{is_placed};
 ghost use Rattle.gtfs_trip_rules.specs.TripNotes.{AreEarlier};
@@ -9,6 +9,7 @@ ghost use Rattle.gtfs_trip_rules.specs.TripOrder.{kept_cmp};
 use crate::trips::places::by_places;
 use crate::trips::ranks::Ranks;
 use crate::trips::row::{StopTime, Times};
+use crate::trips::row_numbers::RowNumbers;
 use crate::trips::stretches::by_trips;
 use gtfs_field::OutOfMemory;
 use gtfs_stop_times::{StopRow, room_for};
@@ -24,15 +25,15 @@ pub(crate) struct RowNote {
     pub(crate) times: Times,
 }
 
-/// Stop times in an order, each a row of `stop_times.txt` with its trip. The rows themselves stay in the order of the
-/// file, whichever order the stop times are in.
+/// Stop times in an order, each a row of `stop_times.txt` with its trip. The rows themselves stay
+/// in the order of the file, whichever order the stop times are in.
 #[derive(Drop)]
 pub struct KeptStopTimes {
     // By the numbers of rows. At a number that is not that of a row stands any.
     rows: Vec<StopRow>,
     notes: Vec<RowNote>,
     // The numbers of the rows, in the order of the stop times.
-    order: Vec<u32>,
+    order: RowNumbers,
 }
 
 impl Model for KeptStopTimes {
@@ -42,9 +43,9 @@ impl Model for KeptStopTimes {
 
     ghost Value = { List StopTimeValue };
 
-    ghost view = { λ k. stop_times_at k.rows.items k.notes.items k.order.items };
+    ghost view = { λ k. stop_times_at k.rows.items k.notes.items k.order };
 
-    ghost invariant = { λ k. AreListed k.rows.items k.notes.items k.order.items };
+    ghost invariant = { λ k. AreListed k.rows.items k.notes.items k.order };
 }
 
 impl KeptStopTimes {
@@ -57,13 +58,14 @@ impl KeptStopTimes {
         Ok(KeptStopTimes {
             rows: Vec::with_capacity(alloc, room_for(end, size_of::<StopRow>()))?,
             notes: Vec::with_capacity(alloc, room_for(end, size_of::<RowNote>()))?,
-            order: Vec::with_capacity(alloc, room_for(records, size_of::<u32>()))?,
+            order: RowNumbers::new(alloc),
         })
     }
 
     // Adds a stop time, whose row comes after those of all others.
     pub(crate) fn push(&mut self, stop_time: StopTime) -> Result<(), OutOfMemory>
-        requires { AreEarlier stop_time.row self.old }
+        requires earlier { AreEarlier stop_time.row self.old }
+        requires unnamed { HasNoHeadsign stop_time.stop_row }
         ensures added { OnOk result (self.new ≡ self.old ++ stop_time ∷ []) }
         ensures kept { OnErr result (self.new ≡ self.old) }
     {
@@ -91,7 +93,7 @@ impl KeptStopTimes {
         requires { at < length self.now }
         ensures { slice_get self.now at ≡ Some result }
     {
-        let row = self.order[at];
+        let row = self.order.get(at);
         let note = self.notes[row as usize];
         StopTime {
             trip: note.trip,
@@ -103,8 +105,8 @@ impl KeptStopTimes {
     }
 
     // The rows by their numbers, and the numbers of the stop times.
-    pub(crate) fn into_rows(self) -> (Vec<StopRow>, Vec<u32>)
-        ensures { AreRowsOf self result.0.items result.1.items }
+    pub(crate) fn into_rows(self) -> (Vec<StopRow>, RowNumbers)
+        ensures { AreRowsOf self result.0.items result.1 }
     {
         let KeptStopTimes {
             rows,
@@ -119,7 +121,7 @@ impl KeptStopTimes {
         ensures { IfOk result (λ kept. kept ≡ filter (λ r. is_placed r.times) self) }
     {
         let KeptStopTimes { rows, notes, order } = self;
-        let order = placed(*order.allocator(), &notes, &order)?;
+        let order = placed(*notes.allocator(), &notes, &order)?;
         Ok(KeptStopTimes { rows, notes, order })
     }
 
@@ -129,7 +131,7 @@ impl KeptStopTimes {
         ensures moved { IfOk result (IsPermutation self) }
     {
         let KeptStopTimes { rows, notes, order } = self;
-        let order = by_places(*order.allocator(), &Ranks::of(&rows, &notes), &order)?;
+        let order = by_places(*notes.allocator(), &Ranks::of(&rows, &notes), &order)?;
         Ok(KeptStopTimes { rows, notes, order })
     }
 
@@ -139,16 +141,18 @@ impl KeptStopTimes {
         ensures moved { IfOk result (IsPermutation self) }
     {
         let KeptStopTimes { rows, notes, order } = self;
-        let order = by_trips(&Ranks::of(&rows, &notes), order)?;
+        let order = by_trips(*notes.allocator(), &Ranks::of(&rows, &notes), order)?;
         Ok(KeptStopTimes { rows, notes, order })
     }
 }
 
-// Puts an item at an index, at or before which nothing is kept. It stands at all indices on the way there.
+// Puts an item at an index, at or before which nothing is kept.
+// It stands at all indices on the way there.
 fn put<T: Copy>(list: &mut Vec<T>, at: usize, item: T) -> Result<(), OutOfMemory>
     ensures before { KeepsBefore at list.old.items list.new.items }
     ensures here { OnOk result ((z : T) → slice_index_or list.new.items at z ≡ item) }
     ensures long { OnOk result (at < length list.new.items) }
+    ensures no_others { HoldsOldOr item list.old.items list.new.items }
 {
     list.resize(at, item)?;
     list.push(item)?;
@@ -156,14 +160,15 @@ fn put<T: Copy>(list: &mut Vec<T>, at: usize, item: T) -> Result<(), OutOfMemory
 }
 
 // Of these numbers those of rows with a sequence.
-fn placed(alloc: Global, notes: &[RowNote], order: &[u32]) -> Result<Vec<u32>, OutOfMemory>
-    ensures { IfOk result (λ rows. rows.items
+fn placed(alloc: Global, notes: &[RowNote], order: &RowNumbers) -> Result<RowNumbers, OutOfMemory>
+    ensures { IfOk result (λ rows. rows
         ≡ filter (λ n. is_placed (slice_index_or notes.now n no_note).times) order.now) }
 {
-    let mut rows = Vec::new(alloc);
-    for row in order {
-        if is_placed(notes, *row) {
-            rows.push(*row)?;
+    let mut rows = RowNumbers::new(alloc);
+    for at in 0..order.len() {
+        let row = order.get(at);
+        if is_placed(notes, row) {
+            rows.push(row)?;
         }
     }
     Ok(rows)

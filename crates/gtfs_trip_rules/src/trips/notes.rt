@@ -5,6 +5,7 @@ ghost use Rattle.gtfs_columns.specs.steps.Found.{Reports};
 ghost use Rattle.gtfs_columns.specs.steps.Ids.{ids_of};
 ghost use Rattle.gtfs_table.specs.Tables.{Dataset};
 ghost use Rattle.gtfs_trip_rules.specs.Kept.{AllKeep};
+ghost use Rattle.gtfs_trip_rules.specs.KeptLists.{HasNoHeadsign};
 ghost use Rattle.gtfs_trip_rules.specs.KeptOrder.{AreKeptOf};
 ghost use Rattle.gtfs_trip_rules.specs.StopTimePicks.{breaks_order};
 ghost use Rattle.gtfs_trip_rules.specs.TripCounts.{count_of};
@@ -21,8 +22,8 @@ use std::alloc::Global;
 use std::collections::BTreeMap;
 use std::marker::Model;
 
-/// What the rows of `stop_times.txt` say of their trips: how many name each trip, and the stop times
-/// that a feed keeps.
+/// What the rows of `stop_times.txt` say of their trips:
+/// how many name each trip, and the stop times that a feed keeps.
 #[derive(Drop)]
 pub struct TripNotes<'a> {
     trips: &'a Ids<'a>,
@@ -79,8 +80,8 @@ impl<'a> TripNotes<'a> {
         })
     }
 
-    // Takes note of one more row, which comes after those so far. It names this trip, which has this number where trips.txt
-    // has it, and it is kept so once it has the number.
+    // Takes note of one more row, which comes after those so far. It names this trip, which has
+    // this number where trips.txt has it, and it is kept so once it has the number.
     pub(crate) fn note(
         &mut self,
         trip_id: &'a str,
@@ -89,6 +90,7 @@ impl<'a> TripNotes<'a> {
     ) -> Result<(), OutOfMemory>
         requires known { number ≡ number_among self.old.trips trip_id.now }
         requires earlier { AreEarlier kept.row self.old.rows }
+        requires unnamed { HasNoHeadsign kept.stop_row }
         ensures trips { self.new.trips ≡ self.old.trips }
         ensures notes { OnOk result
             (self.new.notes ≡ self.old.notes ++ trip_note trip_id.now kept ∷ []) }
@@ -124,8 +126,8 @@ impl<'a> TripNotes<'a> {
         }
     }
 
-    // Whether the rows break nothing, as is mostly so: each has a sequence, and those of each trip stand together and in order.
-    // Where this says no, they may break nothing too.
+    // Whether the rows break nothing, as is mostly so: each has a sequence, and those of each trip
+    // stand together and in order. Where this says no, they may break nothing too.
     pub(crate) fn are_faultless(&self) -> bool
         ensures { result ≡ true → (d : Dataset) → self.now.notes ≡ trip_notes_in d
             → (found : List ProblemOf) → Reports d breaks_order found found }

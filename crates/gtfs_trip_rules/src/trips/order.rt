@@ -18,12 +18,13 @@ use gtfs_columns::{Code, FileName, Found, Problem};
 use gtfs_field::OutOfMemory;
 use gtfs_table::{File, Tables};
 
-/// Reports what the order of stop times breaks: a sequence of a trip that comes twice (E09), a first
-/// or last row without times (E15), and a time that goes back (E17). Hands on the stop times in
-/// their order: by trip, sequence and row. The notes are those of these tables.
+/// Reports what the order of stop times breaks: a sequence of a trip that comes twice (E09), a
+/// first or last row without times (E15), and a time that goes back (E17). Hands on the stop times
+/// in their order: by trip, sequence and row. The notes are those of these tables.
 ///
 /// # Errors
-/// `OutOfMemory` where the problems that were found cannot grow, or there is no room to put the rows in order.
+/// `OutOfMemory` where the problems that were found cannot grow,
+/// or there is no room to put the rows in order.
 pub fn report_order<'a>(
     tables: &'a Tables,
     notes: TripNotes<'_>,
@@ -57,7 +58,8 @@ fn report_rows<'a>(rows: &KeptStopTimes, found: &mut Found<'a>) -> Result<(), Ou
     Ok(())
 }
 
-// Reports what a row breaks after those that were judged. It is an end without times of its trip or not.
+// Reports what a row breaks after those that were judged.
+// It is an end without times of its trip or not.
 #[inline(always)]
 fn report_row<'a>(
     row: &StopTime,
@@ -92,8 +94,8 @@ fn problem<'a>(row: &StopTime, code: Code, column: &'static str) -> Problem<'a>
     }
 }
 
-// Whether the row at an index has no times, and is the first of its trip, or of the rows with its trip's greatest
-// sequence.
+// Whether the row at an index has no times, and is the first of its trip,
+// or of the rows with its trip's greatest sequence.
 #[inline(always)]
 fn is_untimed_end(rows: &KeptStopTimes, at: usize, row: &StopTime, judge: &Judge) -> bool
     requires { at < length rows.now }

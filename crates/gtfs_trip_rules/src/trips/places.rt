@@ -5,6 +5,7 @@ ghost use Rattle.gtfs_trip_rules.specs.KeptPlaces.{place_cmp, ArePlaces, IsPlace
 ghost use Rattle.gtfs_trip_rules.specs.TripOrder.{kept_cmp};
 
 use crate::trips::ranks::Ranks;
+use crate::trips::row_numbers::RowNumbers;
 use gtfs_field::OutOfMemory;
 use std::alloc::Global;
 use std::cmp::Ordering;
@@ -20,24 +21,25 @@ pub(crate) struct Place {
 pub(crate) fn by_places(
     alloc: Global,
     ranks: &Ranks<'_>,
-    order: &[u32],
-) -> Result<Vec<u32>, OutOfMemory>
-    ensures moved { IfOk result (λ rows. IsPermutation order.now rows.items) }
+    order: &RowNumbers,
+) -> Result<RowNumbers, OutOfMemory>
+    ensures moved { IfOk result (IsPermutation order.now) }
     ensures sorted { IfOk result (λ rows. IsSorted kept_cmp
-        (stop_times_at ranks.now.rows.now ranks.now.notes.now rows.items)) }
+        (stop_times_at ranks.now.rows.now ranks.now.notes.now rows)) }
 {
     let mut places = places(alloc, ranks, order)?;
     places.sort_unstable_by(|a, b| compare(a, b));
-    numbers(alloc, &places)
+    let numbers = numbers(alloc, &places)?;
+    Ok(RowNumbers::of(numbers))
 }
 
-fn places(alloc: Global, ranks: &Ranks<'_>, order: &[u32]) -> Result<Vec<Place>, OutOfMemory>
+fn places(alloc: Global, ranks: &Ranks<'_>, order: &RowNumbers) -> Result<Vec<Place>, OutOfMemory>
     ensures { IfOk result (λ places. ArePlaces ranks.now.rows.now ranks.now.notes.now
         order.now places.items) }
 {
     let mut places = Vec::with_capacity(alloc, order.len())?;
-    for row in order {
-        places.push(place_of(ranks, *row))?;
+    for at in 0..order.len() {
+        places.push(place_of(ranks, order.get(at)))?;
     }
     Ok(places)
 }

@@ -54,7 +54,8 @@ impl<'a> Ranks<'a> {
     }
 }
 
-// A number that grows with the trip, and within a trip with the sequence: one comparison in place of two.
+// A number that grows with the trip, and within a trip with the sequence:
+// one comparison in place of two.
 #[inline(always)]
 fn ranked(trip: u32, sequence: u32) -> u64
     ensures value { result ≡ trip * 2 ^ 32 + sequence }

@@ -17,7 +17,8 @@ pub(crate) enum Times {
     Unplaced,
 }
 
-/// A stop time: a row of stop_times.txt as it was read, with its trip (GTFS Schedule Reference, `stop_times.txt`).
+/// A stop time: a row of stop_times.txt as it was read, with its trip (GTFS Schedule Reference,
+/// `stop_times.txt`).
 #[derive(Clone, Copy)]
 pub struct StopTime {
     /// The number of its trip: how many ids of trips.txt come before that trip's id by their bytes.

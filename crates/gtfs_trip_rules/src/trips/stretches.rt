@@ -1,97 +1,94 @@
-ghost use Rattle.std.specs.Option.{unwrap_or};
-ghost use Rattle.std.specs.Prelude.{◌≡◌, ◌<◌, ◌≤◌, length, option_map, slice_index_or, take, IfOk};
+ghost use Rattle.std.specs.Prelude.{◌≡◌, ◌-◌, ◌++◌, ◌<◌, ◌≤◌, drop, length, slice_index_or, take, IfOk, OnOk};
 ghost use Rattle.std.specs.List.{flat_map, All};
 ghost use Rattle.gtfs_trip_rules.specs.KeptLists.{stop_time_at, stop_times_at};
-ghost use Rattle.gtfs_trip_rules.specs.KeptStretches.{ascend_from, AreByTrips, AreRising, IsStretch};
+ghost use Rattle.gtfs_trip_rules.specs.KeptStretches.{ascend_from, numbers_of, AreByTrips, AreRising, IsStretch};
 
 use crate::trips::places::by_places;
 use crate::trips::ranks::Ranks;
+use crate::trips::row_numbers::RowNumbers;
 use gtfs_field::OutOfMemory;
 use std::alloc::Global;
 
-// Rows of one trip that stand one after the other.
+// Rows of one trip that stand one after the other in an order.
 #[derive(Clone, Copy)]
-pub(crate) struct Stretch<'a> {
+pub(crate) struct Stretch {
     pub(crate) trip: u32,
-    pub(crate) rows: &'a [u32],
+    // The index of the first one.
+    pub(crate) start: usize,
+    // The index after the last one.
+    pub(crate) end: usize,
 }
 
-// Rows whose trips stand together, by the numbers of their trips. No row is looked at, but where a trip does not stand together.
-// They come in the list that was handed in, so that what is freed lies behind it.
-pub(crate) fn by_trips(ranks: &Ranks<'_>, mut order: Vec<u32>) -> Result<Vec<u32>, OutOfMemory>
+// Rows whose trips stand together, by the numbers of their trips.
+// No row is looked at, but where a trip does not stand together.
+pub(crate) fn by_trips(
+    alloc: Global,
+    ranks: &Ranks<'_>,
+    order: RowNumbers,
+) -> Result<RowNumbers, OutOfMemory>
     ensures { IfOk result
-        (λ rows. AreByTrips ranks.now.rows.now ranks.now.notes.now order.items rows.items) }
+        (AreByTrips ranks.now.rows.now ranks.now.notes.now order) }
 {
-    let alloc = *order.allocator();
-    if let Some(moved) = moved(alloc, ranks, &order)? {
-        order.clear();
-        order.extend_from_slice(&moved)?;
-    }
-    Ok(order)
-}
-
-// The same, where they do not stand so already.
-fn moved(alloc: Global, ranks: &Ranks<'_>, rows: &[u32]) -> Result<Option<Vec<u32>>, OutOfMemory>
-    ensures { IfOk result (λ moved. AreByTrips ranks.now.rows.now ranks.now.notes.now rows.now
-        (unwrap_or (option_map (λ m. m.items) moved) rows.now)) }
-{
-    let mut stretches = stretches(alloc, ranks, rows)?;
+    // Its room comes first, so that the stretches, which grow, lie behind it and leave no hole.
+    let mut rows = Vec::with_capacity(alloc, order.len())?;
+    let mut stretches = stretches(alloc, ranks, &order)?;
     if ascend(&stretches) {
-        return Ok(None);
+        return Ok(order);
     }
     stretches.sort_unstable_by_key(|stretch| stretch.trip);
     if !ascend(&stretches) {
-        return Ok(Some(by_places(alloc, ranks, rows)?));
+        return by_places(alloc, ranks, &order);
     }
-    Ok(Some(joined(alloc, rows.len(), &stretches)?))
+    push_all(&order, &stretches, &mut rows)?;
+    Ok(RowNumbers::of(rows))
 }
 
 // The rows in stretches, each as long as it can be.
-fn stretches<'a>(
+fn stretches(
     alloc: Global,
     ranks: &Ranks<'_>,
-    rows: &'a [u32],
-) -> Result<Vec<Stretch<'a>>, OutOfMemory>
+    order: &RowNumbers,
+) -> Result<Vec<Stretch>, OutOfMemory>
     ensures all { IfOk result
-        (λ stretches. flat_map (λ s. s.rows.now) stretches.items ≡ rows.now) }
+        (λ stretches. flat_map (numbers_of order.now) stretches.items ≡ order.now) }
+    ensures within { IfOk result
+        (λ stretches. All (λ s. (s.start ≤ s.end) × (s.end ≤ length order.now)) stretches.items) }
     ensures each { IfOk result (λ stretches.
-        AreRising (stop_times_at ranks.now.rows.now ranks.now.notes.now rows.now)
-        → All (IsStretch ranks.now.rows.now ranks.now.notes.now) stretches.items) }
+        AreRising (stop_times_at ranks.now.rows.now ranks.now.notes.now order.now)
+        → All (IsStretch ranks.now.rows.now ranks.now.notes.now order.now) stretches.items) }
 {
     let mut stretches = Vec::new(alloc);
-    let mut left = rows;
-    while let Some(first) = left.first() {
-        let trip = ranks.trip(*first);
-        let (stretch, rest) = left.split_at(stretch_len(ranks, trip, left));
-        stretches.push(Stretch {
-            trip,
-            rows: stretch,
-        })?;
-        left = rest;
+    let mut start: usize = 0;
+    while start < order.len() {
+        let trip = ranks.trip(order.get(start));
+        let end = end_of(ranks, trip, order, start);
+        stretches.push(Stretch { trip, start, end })?;
+        start = end;
     }
     Ok(stretches)
 }
 
-// How many of the first rows are of this trip, which is that of the first one.
-fn stretch_len(ranks: &Ranks<'_>, trip: u32, rows: &[u32]) -> usize
-    requires some { 0 < length rows.now }
+// Where the rows from a start on that are of this trip end, which is that of the first one.
+fn end_of(ranks: &Ranks<'_>, trip: u32, order: &RowNumbers, start: usize) -> usize
+    requires some { start < length order.now }
     requires first { (stop_time_at ranks.now.rows.now ranks.now.notes.now
-        (slice_index_or rows.now 0 0)).trip ≡ trip }
-    ensures some { 0 < result }
-    ensures within { result ≤ length rows.now }
+        (slice_index_or order.now start 0)).trip ≡ trip }
+    ensures some { start < result }
+    ensures within { result ≤ length order.now }
     ensures of_trip { All
         (λ n. (stop_time_at ranks.now.rows.now ranks.now.notes.now n).trip ≡ trip)
-        (take result rows.now) }
+        (take (result - start) (drop start order.now)) }
 {
-    let mut len = 1;
-    while len < rows.len() && ranks.trip(rows[len]) == trip {
-        len += 1;
+    let count = order.len();
+    let mut end = start + 1;
+    while end < count && ranks.trip(order.get(end)) == trip {
+        end += 1;
     }
-    len
+    end
 }
 
 // Whether each stretch is of a trip after those of the stretches before it.
-fn ascend(stretches: &[Stretch<'_>]) -> bool
+fn ascend(stretches: &[Stretch]) -> bool
     ensures { result ≡ ascend_from 0 stretches.now }
 {
     let mut least: u64 = 0;
@@ -105,13 +102,33 @@ fn ascend(stretches: &[Stretch<'_>]) -> bool
     true
 }
 
-// The stretches one after the other, which have so many rows.
-fn joined(alloc: Global, count: usize, stretches: &[Stretch<'_>]) -> Result<Vec<u32>, OutOfMemory>
-    ensures { IfOk result (λ rows. rows.items ≡ flat_map (λ s. s.rows.now) stretches.now) }
+// Adds the numbers of the rows of stretches, one after the other.
+fn push_all(
+    order: &RowNumbers,
+    stretches: &[Stretch],
+    rows: &mut Vec<u32>,
+) -> Result<(), OutOfMemory>
+    requires { All (λ s. (s.start ≤ s.end) × (s.end ≤ length order.now)) stretches.now }
+    ensures { OnOk result (rows.new.items
+        ≡ rows.old.items ++ flat_map (numbers_of order.now) stretches.now) }
 {
-    let mut rows = Vec::with_capacity(alloc, count)?;
     for stretch in stretches {
-        rows.extend_from_slice(stretch.rows)?;
+        push_numbers(order, stretch, rows)?;
     }
-    Ok(rows)
+    Ok(())
+}
+
+// Adds the numbers of the rows of a stretch.
+fn push_numbers(
+    order: &RowNumbers,
+    stretch: &Stretch,
+    rows: &mut Vec<u32>,
+) -> Result<(), OutOfMemory>
+    requires { (stretch.now.start ≤ stretch.now.end) × (stretch.now.end ≤ length order.now) }
+    ensures { OnOk result (rows.new.items ≡ rows.old.items ++ numbers_of order.now stretch.now) }
+{
+    for at in stretch.start..stretch.end {
+        rows.push(order.get(at))?;
+    }
+    Ok(())
 }

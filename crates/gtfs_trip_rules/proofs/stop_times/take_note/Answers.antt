@@ -21,6 +21,9 @@ pub note-requires-clause-earlier : goal.note-requires-clause-earlier
 note-requires-clause-earlier c =
     subst (λ n. AreEarlier n c.args.notes.now.rows) (sym (ap (λ r. r.row) c.in_ok-kept.ensures)) c.requires.earlier
 
+pub note-requires-clause-unnamed : goal.note-requires-clause-unnamed
+note-requires-clause-unnamed c = ap (λ r. r.stop_row.stop_headsign) c.in_ok-kept.ensures
+
 pub returns-clause-earlier : goal.returns-clause-earlier
 returns-clause-earlier c =
     let s = c.args.stop_time.now in

@@ -3,5 +3,5 @@ use Rattle.gtfs_trip_rules.specs.Headsigns.{rows_at}
 use Rattle.gtfs_trip_rules.proofs.trips.by_trip.in_order.Given as goal
 
 -- the rows so far
-abbrev pub invariant-loop-row : goal.invariant-loop-row
-invariant-loop-row l = l.list.items ≡ rows_at l.rows (take l.row-index l.order)
+abbrev pub invariant-loop-at : goal.invariant-loop-at
+invariant-loop-at l = l.list.items ≡ rows_at l.rows (take l.at l.order)

@@ -3,5 +3,5 @@ use Rattle.gtfs_trip_rules.specs.KeptLists.{no_note}
 use Rattle.gtfs_trip_rules.specs.KeptTimes.{is_placed}
 use Rattle.gtfs_trip_rules.proofs.trips.kept.placed.Given as goal
 
-abbrev pub invariant-loop-row : goal.invariant-loop-row
-invariant-loop-row l = l.rows.items ≡ filter (λ n. is_placed (get_or l.notes n no_note).times) (take l.row-index l.order)
+abbrev pub invariant-loop-at : goal.invariant-loop-at
+invariant-loop-at l = l.rows ≡ filter (λ n. is_placed (get_or l.notes n no_note).times) (take l.at l.order)

@@ -1,9 +1,8 @@
-use Rattle.std.proofs.Common.{◌≡◌, ◌∙◌, map, ap, rules, subst, sym}
+use Rattle.std.proofs.Common.{◌∙◌, map, ap, rules, subst, sym}
 use Rattle.std.specs.List.Sorted.{IsSorted}
 use Rattle.std.specs.Ordering.{is_lt}
 use Rattle.std.specs.Prelude.{IsPermutation}
 use Rattle.std.proofs.lemmas.List.Sorted.{All-permutation, IsPermutation-map, answers_always, ranks_by}
-use Rattle.std.proofs.lemmas.Result.{IfOk-weaker}
 use Rattle.gtfs_trip_rules.specs.KeptLists.{stop_times_at}
 use Rattle.gtfs_trip_rules.specs.KeptPlaces.{place_cmp, IsPlace}
 use Rattle.gtfs_trip_rules.specs.TripOrder.{kept_cmp}
@@ -14,10 +13,8 @@ pub returns-clause-moved : goal.returns-clause-moved
 returns-clause-moved c =
     let old = c.in_ok-places.places.items in
     let new = c.sort_unstable_by.new.self.items in
-    IfOk-weaker c.numbers.result (λ rows. rows.items ≡ map (λ p. p.row) c.deref.result.now) (λ rows. IsPermutation c.args.order.now rows.items)
-    (λ rows is. subst (IsPermutation c.args.order.now) (sym (is ∙ ap (map (λ p. p.row)) c.deref.ensures.value))
-    (subst (λ ns. IsPermutation ns (map (λ p. p.row) new)) c.in_ok-places.ensures.same (IsPermutation-map (λ p. p.row) old new c.sort_unstable_by.ensures.permutation)))
-    c.numbers.ensures
+    subst (IsPermutation c.args.order.now) (sym (c.of.ensures ∙ c.in_ok-numbers.ensures ∙ ap (map (λ p. p.row)) c.deref.ensures.value))
+    (subst (λ ns. IsPermutation ns (map (λ p. p.row) new)) c.in_ok-places.ensures.same (IsPermutation-map (λ p. p.row) old new c.sort_unstable_by.ensures.permutation))
 
 pub returns-clause-sorted : goal.returns-clause-sorted
 returns-clause-sorted c =
@@ -28,6 +25,5 @@ returns-clause-sorted c =
     let sorted : IsSorted place_cmp new =
     c.sort_unstable_by.ensures.sorted (λ x y. is_lt (place_cmp x y)) (ranks_by place_total (λ x. x)) (answers_always _ _ _ (λ f a r g called. search rules)) in
     let each = All-permutation (IsPlace rows notes) old new c.sort_unstable_by.ensures.permutation c.in_ok-places.ensures.each in
-    IfOk-weaker c.numbers.result (λ ns. ns.items ≡ map (λ p. p.row) c.deref.result.now) (λ ns. IsSorted kept_cmp (stop_times_at rows notes ns.items))
-    (λ ns is. subst (λ ms. IsSorted kept_cmp (stop_times_at rows notes ms)) (sym (is ∙ ap (map (λ p. p.row)) c.deref.ensures.value)) (sorted_rows rows notes new each sorted))
-    c.numbers.ensures
+    subst (λ ms. IsSorted kept_cmp (stop_times_at rows notes ms)) (sym (c.of.ensures ∙ c.in_ok-numbers.ensures ∙ ap (map (λ p. p.row)) c.deref.ensures.value))
+    (sorted_rows rows notes new each sorted)

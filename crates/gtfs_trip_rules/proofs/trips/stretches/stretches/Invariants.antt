@@ -1,14 +1,18 @@
-use Rattle.std.proofs.Common.{◌≡◌, ◌++◌, length}
+use Rattle.std.proofs.Common.{◌≡◌, ◌-◌, ◌++◌, ◌≤◌, drop, length}
 use Rattle.std.specs.List.{All, flat_map}
 use Rattle.gtfs_trip_rules.specs.KeptLists.{stop_times_at}
-use Rattle.gtfs_trip_rules.specs.KeptStretches.{AreRising, IsStretch}
+use Rattle.gtfs_trip_rules.specs.KeptStretches.{numbers_of, AreRising, IsStretch}
 use Rattle.gtfs_trip_rules.proofs.trips.stretches.stretches.Given as goal
 
-abbrev pub invariant-loop-first : goal.invariant-loop-first
-invariant-loop-first l = record {
-  all : flat_map (λ s. s.rows.now) l.stretches.items ++ l.left ≡ l.fn.rows;
-  each : AreRising (stop_times_at l.ranks.rows.now l.ranks.notes.now l.fn.rows) → All (IsStretch l.ranks.rows.now l.ranks.notes.now) l.stretches.items × AreRising (stop_times_at l.ranks.rows.now l.ranks.notes.now l.left);
+-- the stretches so far, and the rows after them
+abbrev pub invariant-loop-start : goal.invariant-loop-start
+invariant-loop-start l = record {
+  low : l.start ≤ length l.order;
+  all : flat_map (numbers_of l.order) l.stretches.items ++ drop l.start l.order ≡ l.order;
+  within : All (λ s. (s.start ≤ s.end) × (s.end ≤ length l.order)) l.stretches.items;
+  each : AreRising (stop_times_at l.ranks.rows.now l.ranks.notes.now l.order)
+      → All (IsStretch l.ranks.rows.now l.ranks.notes.now l.order) l.stretches.items × AreRising (stop_times_at l.ranks.rows.now l.ranks.notes.now (drop l.start l.order));
 }
 
-abbrev pub decreases-loop-first : goal.decreases-loop-first
-decreases-loop-first l = length l.left
+abbrev pub decreases-loop-start : goal.decreases-loop-start
+decreases-loop-start l = length l.order - l.start

@@ -8,7 +8,7 @@ use Rattle.gtfs_trip_rules.proofs.trips.kept.KeptStopTimes.by_trips.Goals as goa
 pub invariant_of-result : goal.invariant_of-result
 invariant_of-result c =
     let k = c.self.inside in
-    moved_listed k.rows.items k.notes.items k.order.items c.self.invariant c.in_ok-order.order.items c.in_ok-order.ensures.moved
+    moved_listed k.rows.items k.notes.items k.order c.self.invariant c.in_ok-order.order c.in_ok-order.ensures.moved
 
 pub returns-clause-sorted : goal.returns-clause-sorted
 returns-clause-sorted c = λ up.
@@ -18,4 +18,4 @@ returns-clause-sorted c = λ up.
 pub returns-clause-moved : goal.returns-clause-moved
 returns-clause-moved c =
     let k = c.self.inside in
-    subst (λ v. IsPermutation v (stop_times_at k.rows.items k.notes.items c.in_ok-order.order.items)) c.self.view_is (moved_rows k.rows.items k.notes.items k.order.items c.in_ok-order.order.items c.in_ok-order.ensures.moved)
+    subst (λ v. IsPermutation v (stop_times_at k.rows.items k.notes.items c.in_ok-order.order)) c.self.view_is (moved_rows k.rows.items k.notes.items k.order c.in_ok-order.order c.in_ok-order.ensures.moved)

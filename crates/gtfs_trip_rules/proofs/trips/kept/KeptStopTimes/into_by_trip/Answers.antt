@@ -11,69 +11,69 @@ pub at_ranges-requires-clause-within : goal.at_ranges-requires-clause-within
 at_ranges-requires-clause-within c =
     let rows = c.into_rows-rows.result.0.items in
     let named = c.with_headsigns-rows.result.items in
-    let order = c.into_rows-rows.result.1.items in
+    let order = c.into_rows-rows.result.1 in
     let hs = c.args.headsigns.now in
-    let are : rows_at named order ≡ named_rows rows order hs = subst (λ ns. rows_at named ns ≡ named_rows rows ns hs) c.deref.ensures.value c.with_headsigns-rows.ensures.rows in
+    let are : rows_at named order ≡ named_rows rows order hs = c.with_headsigns-rows.ensures.rows in
     let starts = c.args.starts in
     let ranges = c.in-Some.ranges.items in
     let found : map numbers_in ranges ≡ parts starts order =
-    rw (← c.as_slice.ensures, ← c.deref-2.ensures.value) (subst (λ o. IfSome o (λ rs. map numbers_in rs.items ≡ parts c.as_slice.result.now c.deref-2.result.now)) c.in-Some.is c.in_ok-ranges.ensures.numbers) in
+    rw (← c.as_slice.ensures) (subst (λ o. IfSome o (λ rs. map numbers_in rs.items ≡ parts c.as_slice.result.now order)) c.in-Some.is c.in_ok-ranges.ensures.numbers) in
     let within : (size : ℕ) → All (λ n. n < size) order → AreWithin size ranges =
-    rw (← c.deref-2.ensures.value) (subst (λ o. IfSome o (λ rs. (size : ℕ) → All (λ n. n < size) c.deref-2.result.now → AreWithin size rs.items)) c.in-Some.is c.in_ok-ranges.ensures.within) in
+    subst (λ o. IfSome o (λ rs. (size : ℕ) → All (λ n. n < size) order → AreWithin size rs.items)) c.in-Some.is c.in_ok-ranges.ensures.within in
     whole-within c.args.self rows named order starts hs c.into_rows-rows.ensures are c.with_headsigns-rows.ensures.long ranges found within c.requires.rising c.requires.from_first
 
 pub at_ranges-requires-clause-len : goal.at_ranges-requires-clause-len
 at_ranges-requires-clause-len c =
     let rows = c.into_rows-rows.result.0.items in
     let named = c.with_headsigns-rows.result.items in
-    let order = c.into_rows-rows.result.1.items in
+    let order = c.into_rows-rows.result.1 in
     let hs = c.args.headsigns.now in
-    let are : rows_at named order ≡ named_rows rows order hs = subst (λ ns. rows_at named ns ≡ named_rows rows ns hs) c.deref.ensures.value c.with_headsigns-rows.ensures.rows in
+    let are : rows_at named order ≡ named_rows rows order hs = c.with_headsigns-rows.ensures.rows in
     let starts = c.args.starts in
     let ranges = c.in-Some.ranges.items in
     let found : map numbers_in ranges ≡ parts starts order =
-    rw (← c.as_slice.ensures, ← c.deref-2.ensures.value) (subst (λ o. IfSome o (λ rs. map numbers_in rs.items ≡ parts c.as_slice.result.now c.deref-2.result.now)) c.in-Some.is c.in_ok-ranges.ensures.numbers) in
+    rw (← c.as_slice.ensures) (subst (λ o. IfSome o (λ rs. map numbers_in rs.items ≡ parts c.as_slice.result.now order)) c.in-Some.is c.in_ok-ranges.ensures.numbers) in
     let within : (size : ℕ) → All (λ n. n < size) order → AreWithin size ranges =
-    rw (← c.deref-2.ensures.value) (subst (λ o. IfSome o (λ rs. (size : ℕ) → All (λ n. n < size) c.deref-2.result.now → AreWithin size rs.items)) c.in-Some.is c.in_ok-ranges.ensures.within) in
-    whole-len c.args.self rows named order starts hs c.into_rows-rows.ensures are c.with_headsigns-rows.ensures.long ranges found within c.requires.rising c.requires.from_first ∙ sym c.into_rows-rows.result.1.ok.0 ∙ sym c.len.ensures
+    subst (λ o. IfSome o (λ rs. (size : ℕ) → All (λ n. n < size) order → AreWithin size rs.items)) c.in-Some.is c.in_ok-ranges.ensures.within in
+    whole-len c.args.self rows named order starts hs c.into_rows-rows.ensures are c.with_headsigns-rows.ensures.long ranges found within c.requires.rising c.requires.from_first ∙ sym c.len.ensures
 
 pub returns-in-Some-clause-rows : goal.returns-in-Some-clause-rows
 returns-in-Some-clause-rows c =
     let rows = c.into_rows-rows.result.0.items in
     let named = c.with_headsigns-rows.result.items in
-    let order = c.into_rows-rows.result.1.items in
+    let order = c.into_rows-rows.result.1 in
     let hs = c.args.headsigns.now in
-    let are : rows_at named order ≡ named_rows rows order hs = subst (λ ns. rows_at named ns ≡ named_rows rows ns hs) c.deref.ensures.value c.with_headsigns-rows.ensures.rows in
+    let are : rows_at named order ≡ named_rows rows order hs = c.with_headsigns-rows.ensures.rows in
     let starts = c.args.starts in
     let ranges = c.in-Some.ranges.items in
     let found : map numbers_in ranges ≡ parts starts order =
-    rw (← c.as_slice.ensures, ← c.deref-2.ensures.value) (subst (λ o. IfSome o (λ rs. map numbers_in rs.items ≡ parts c.as_slice.result.now c.deref-2.result.now)) c.in-Some.is c.in_ok-ranges.ensures.numbers) in
+    rw (← c.as_slice.ensures) (subst (λ o. IfSome o (λ rs. map numbers_in rs.items ≡ parts c.as_slice.result.now order)) c.in-Some.is c.in_ok-ranges.ensures.numbers) in
     let within : (size : ℕ) → All (λ n. n < size) order → AreWithin size ranges =
-    rw (← c.deref-2.ensures.value) (subst (λ o. IfSome o (λ rs. (size : ℕ) → All (λ n. n < size) c.deref-2.result.now → AreWithin size rs.items)) c.in-Some.is c.in_ok-ranges.ensures.within) in
+    subst (λ o. IfSome o (λ rs. (size : ℕ) → All (λ n. n < size) order → AreWithin size rs.items)) c.in-Some.is c.in_ok-ranges.ensures.within in
     ap (λ t. t.rows) c.at_ranges.ensures ∙ whole-rows c.args.self rows named order starts hs c.into_rows-rows.ensures are c.with_headsigns-rows.ensures.long ranges found within c.requires.rising c.requires.from_first
 
 pub returns-in-Some-clause-starts : goal.returns-in-Some-clause-starts
 returns-in-Some-clause-starts c =
     let rows = c.into_rows-rows.result.0.items in
     let named = c.with_headsigns-rows.result.items in
-    let order = c.into_rows-rows.result.1.items in
+    let order = c.into_rows-rows.result.1 in
     let hs = c.args.headsigns.now in
-    let are : rows_at named order ≡ named_rows rows order hs = subst (λ ns. rows_at named ns ≡ named_rows rows ns hs) c.deref.ensures.value c.with_headsigns-rows.ensures.rows in
+    let are : rows_at named order ≡ named_rows rows order hs = c.with_headsigns-rows.ensures.rows in
     let starts = c.args.starts in
     let ranges = c.in-Some.ranges.items in
     let found : map numbers_in ranges ≡ parts starts order =
-    rw (← c.as_slice.ensures, ← c.deref-2.ensures.value) (subst (λ o. IfSome o (λ rs. map numbers_in rs.items ≡ parts c.as_slice.result.now c.deref-2.result.now)) c.in-Some.is c.in_ok-ranges.ensures.numbers) in
+    rw (← c.as_slice.ensures) (subst (λ o. IfSome o (λ rs. map numbers_in rs.items ≡ parts c.as_slice.result.now order)) c.in-Some.is c.in_ok-ranges.ensures.numbers) in
     let within : (size : ℕ) → All (λ n. n < size) order → AreWithin size ranges =
-    rw (← c.deref-2.ensures.value) (subst (λ o. IfSome o (λ rs. (size : ℕ) → All (λ n. n < size) c.deref-2.result.now → AreWithin size rs.items)) c.in-Some.is c.in_ok-ranges.ensures.within) in
+    subst (λ o. IfSome o (λ rs. (size : ℕ) → All (λ n. n < size) order → AreWithin size rs.items)) c.in-Some.is c.in_ok-ranges.ensures.within in
     ap (λ t. t.starts) c.at_ranges.ensures ∙ whole-starts c.args.self rows named order starts hs c.into_rows-rows.ensures are c.with_headsigns-rows.ensures.long ranges found within c.requires.rising c.requires.from_first
 
 pub returns-in_ok-rows-in-None-clause-rows : goal.returns-in_ok-rows-in-None-clause-rows
 returns-in_ok-rows-in-None-clause-rows c =
     let rows = c.into_rows-rows.result.0.items in
     let named = c.with_headsigns-rows.result.items in
-    let order = c.into_rows-rows.result.1.items in
+    let order = c.into_rows-rows.result.1 in
     let hs = c.args.headsigns.now in
-    let are : rows_at named order ≡ named_rows rows order hs = subst (λ ns. rows_at named ns ≡ named_rows rows ns hs) c.deref.ensures.value c.with_headsigns-rows.ensures.rows in
+    let are : rows_at named order ≡ named_rows rows order hs = c.with_headsigns-rows.ensures.rows in
     c.new-in-None.ensures.rows ∙ c.new.ensures ∙ c.in_ok-rows-in-None.ensures
-    ∙ (λ i. rows_at (c.deref-in-None.ensures.value i) (c.deref-in-None-2.ensures.value i))
+    ∙ ap (λ rs. rows_at rs order) c.deref.ensures.value
     ∙ whole c.args.self rows named order c.args.starts hs c.into_rows-rows.ensures are c.with_headsigns-rows.ensures.long

@@ -6,6 +6,7 @@ pub returns : goal.returns
 returns c =
     let k = c.self.inside in record {
       in_rows = c.self.invariant.in_rows;
-      numbers = ap (map (λ s. s.row)) (sym c.self.view_is) ∙ own-numbers k.rows.items k.notes.items k.order.items;
-      say = ap (map (λ s. s.stop_row)) (sym c.self.view_is) ∙ own-rows k.rows.items k.notes.items k.order.items;
+      unnamed = c.self.invariant.unnamed;
+      numbers = ap (map (λ s. s.row)) (sym c.self.view_is) ∙ own-numbers k.rows.items k.notes.items k.order;
+      say = ap (map (λ s. s.stop_row)) (sym c.self.view_is) ∙ own-rows k.rows.items k.notes.items k.order;
     }

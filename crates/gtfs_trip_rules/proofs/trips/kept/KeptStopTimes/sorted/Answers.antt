@@ -7,9 +7,9 @@ use Rattle.gtfs_trip_rules.proofs.trips.kept.KeptStopTimes.sorted.Goals as goal
 pub invariant_of-result : goal.invariant_of-result
 invariant_of-result c =
     let k = c.self.inside in
-    moved_listed k.rows.items k.notes.items k.order.items c.self.invariant c.in_ok-order.order.items (subst (λ ns. IsPermutation ns c.in_ok-order.order.items) c.deref-3.ensures.value c.in_ok-order.ensures.moved)
+    moved_listed k.rows.items k.notes.items k.order c.self.invariant c.in_ok-order.order c.in_ok-order.ensures.moved
 
 pub returns-clause-moved : goal.returns-clause-moved
 returns-clause-moved c =
     let k = c.self.inside in
-    subst (λ v. IsPermutation v (stop_times_at k.rows.items k.notes.items c.in_ok-order.order.items)) c.self.view_is (moved_rows k.rows.items k.notes.items k.order.items c.in_ok-order.order.items (subst (λ ns. IsPermutation ns c.in_ok-order.order.items) c.deref-3.ensures.value c.in_ok-order.ensures.moved))
+    subst (λ v. IsPermutation v (stop_times_at k.rows.items k.notes.items c.in_ok-order.order)) c.self.view_is (moved_rows k.rows.items k.notes.items k.order c.in_ok-order.order c.in_ok-order.ensures.moved)

@@ -4,6 +4,7 @@ use Rattle.std.proofs.lemmas.Bool.{eqb-true as same_number}
 use Rattle.std.proofs.lemmas.List.{map-append, reverse-append}
 use Rattle.gtfs_columns.specs.IdNumbers.{number_among}
 use Rattle.gtfs_columns.specs.steps.Ids.{ids_of, number_with}
+use Rattle.gtfs_trip_rules.specs.KeptLists.{HasNoHeadsign}
 use Rattle.gtfs_trip_rules.specs.KeptRow.{with_trip}
 use Rattle.gtfs_trip_rules.specs.KeptTimes.{is_placed}
 use Rattle.gtfs_trip_rules.specs.TripJudged.{Judges}
@@ -44,8 +45,11 @@ invariant_of-self-in_err-push c =
     rw c.in_err-push.ensures.kept
     (still_kept trips n.numbers c.trip_number.new.numbers n.names.items c.trip_number.new.names.items n.counts.items c.make_room.new.counts.items n.are_sequenced n.judge n.rows c.self.invariant reported.keeps reported.named c.make_room.ensures.same)
 
-pub push-requires : goal.push-requires
-push-requires c =
+pub push-requires-clause-unnamed : goal.push-requires-clause-unnamed
+push-requires-clause-unnamed c = subst (λ r. HasNoHeadsign r.stop_row) (sym c.of_trip-row.ensures) c.requires.unnamed
+
+pub push-requires-clause-earlier : goal.push-requires-clause-earlier
+push-requires-clause-earlier c =
     let row : c.of_trip-row.result.row ≡ c.args.kept.row = ap (λ r. r.row) c.of_trip-row.ensures in
     subst (λ n. AreEarlier n c.self.inside.rows) (sym row)
     (subst (AreEarlier c.args.kept.row) (sym (ap (λ v. v.rows) c.self.view_is)) c.requires.earlier)
