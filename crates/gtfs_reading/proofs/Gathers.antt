@@ -29,6 +29,7 @@ use Rattle.gtfs_reading.specs.FirstNamed.{each_once}
 use Rattle.gtfs_reading.specs.Gathering.{AreGathered, AreListsOf, IsEmptyFor, by_trip}
 use Rattle.gtfs_reading.specs.StopTimeDraft.{AreCut, lists_with}
 use Rattle.gtfs_reading.specs.declared.gathered.GatheredLists.{GatheredLists}
+use Rattle.gtfs_trip_rules.specs.Headsigned.{Headsigned}
 use Rattle.gtfs_trip_rules.specs.Headsigns.{rows_with, with_headsign_at}
 use Rattle.gtfs_rows.specs.Headsigns.{AddsOnly, AreDistinct, KeepsHeadsigns, NamesHeadsign}
 use Rattle.gtfs_reading.specs.HeadsignIndex.{with_headsign}
@@ -57,14 +58,6 @@ rows_with-push [] (k ∷ hs) s h same = cc same
 rows_with-push (r ∷ ss) [] s h same = cc same
 rows_with-push (r ∷ ss) (k ∷ hs) s h same = ap (λ rs. with_headsign_at r k ∷ rs) (rows_with-push ss hs s h (omega (arith, same)))
 
-pub rows_with-next : (ss : List StopTime) (hs : List (Option ℕ)) (at : ℕ) (s : StopTime) (h : Option ℕ) → length hs ≡ length ss → at < length ss
-    → rows_with (take (at + 1) ss) (take (at + 1) hs) ≡ rows_with (take at ss) (take at hs) ++ with_headsign_at (get_or ss at s) (get_or hs at h) ∷ []
-rows_with-next ss hs at s h same within =
-    let so_many : length (take at hs) ≡ length (take at ss) = length-take-le at hs (omega (arith, same, within)) ∙ sym (length-take-le at ss (omega (arith, within))) in
-    ap (λ rs. rows_with rs (take (at + 1) hs)) (take_more ss at s within)
-    ∙ ap (rows_with (take at ss ++ get_or ss at s ∷ [])) (take_more hs at h (omega (arith, same, within)))
-    ∙ rows_with-push (take at ss) (take at hs) (get_or ss at s) (get_or hs at h) so_many
-
 -- ---- none
 
 none-rise : (starts : List ℕ) (size : ℕ) → starts ≡ [] → Rising 0 starts size
@@ -88,8 +81,8 @@ gathered-none d g empty = record {
   rising = none-rise g.starts.items 0 empty.starts;
   from_first = ap (λ ks. get_or ks 0 0) empty.starts;
   stretches = none-by_trip g.starts.items [] empty.starts;
-  named = ap (map (stop_row_named (content_stop_ids d) g.headsigns.texts)) (rows_with-none g.numbers.items);
-  numbers = ap (list_all (has_numbers_below (length (content_of d).stops) (length g.headsigns.texts))) (rows_with-none g.numbers.items);
+  named = ap (map (stop_row_named (content_stop_ids d) g.headsigns.texts)) (rows_with-none g.stop_times.headsigns);
+  numbers = ap (list_all (has_numbers_below (length (content_of d).stops) (length g.headsigns.texts))) (rows_with-none g.stop_times.headsigns);
   used = λ k h. let many = ap length empty.headsigns in absurd (omega (arith, h, many));
   first_named = empty.headsigns ∙ none-once;
 }
@@ -125,16 +118,16 @@ pub record IsOneMore (d : Dataset) (s : StopTime) (g new : Gathered) : Type 0 wh
   pub added : AddsOnly g.headsigns.texts new.headsigns.texts headsign
   pub texts : new.headsigns.texts ≡ with_headsign g.headsigns.texts (word_in d file.StopTimes s.row "stop_headsign")
   pub names : NamesHeadsign new.headsigns.texts headsign (word_in d file.StopTimes s.row "stop_headsign")
-  pub starts : new.starts.items ≡ take (s.trip + 1) g.starts.items ++ replicate (s.trip + 1 - length g.starts.items) (length g.numbers.items)
-  pub numbers : new.numbers.items ≡ g.numbers.items ++ headsign ∷ []
+  pub starts : new.starts.items ≡ take (s.trip + 1) g.starts.items ++ replicate (s.trip + 1 - length g.starts.items) (length g.stop_times.headsigns)
+  pub numbers : new.stop_times.headsigns ≡ g.stop_times.headsigns ++ headsign ∷ []
 
 module _ (d : Dataset) (passes : Passes d) (ss : List StopTime) (s : StopTime) (g new : Gathered)
     (so_far : AreGathered d ss g) (said : SaysStopTime d s) (after : All (λ r. r.trip ≤ s.trip) ss) (more : IsOneMore d s g new) where
   abbrev earlier : List StopRow
-  earlier = rows_with ss g.numbers.items
+  earlier = rows_with ss g.stop_times.headsigns
 
-  rows : rows_with (ss ++ s ∷ []) new.numbers.items ≡ earlier ++ with_headsign_at s more.headsign ∷ []
-  rows = ap (rows_with (ss ++ s ∷ [])) more.numbers ∙ rows_with-push ss g.numbers.items s more.headsign so_far.size
+  rows : rows_with (ss ++ s ∷ []) new.stop_times.headsigns ≡ earlier ++ with_headsign_at s more.headsign ∷ []
+  rows = ap (rows_with (ss ++ s ∷ [])) more.numbers ∙ rows_with-push ss g.stop_times.headsigns s more.headsign so_far.size
 
   starts : new.starts.items ≡ take (s.trip + 1) g.starts.items ++ replicate (s.trip + 1 - length g.starts.items) (length ss)
   starts = more.starts ∙ ap (λ n. take (s.trip + 1) g.starts.items ++ replicate (s.trip + 1 - length g.starts.items) n) so_far.size
@@ -169,7 +162,7 @@ module _ (d : Dataset) (passes : Passes d) (ss : List StopTime) (s : StopTime) (
   pub gathered-more : AreGathered d (ss ++ s ∷ []) new
   gathered-more = record {
     trips = more.trips ∙ so_far.trips;
-    size = ap length more.numbers ∙ length_push g.numbers.items more.headsign ∙ ap (λ n. n + 1) so_far.size ∙ sym grown;
+    size = ap length more.numbers ∙ length_push g.stop_times.headsigns more.headsign ∙ ap (λ n. n + 1) so_far.size ∙ sym grown;
     below = All-append (λ r. r.trip < length new.starts.items) ss (s ∷ [])
         (λ k e h. let lower = after k e h in omega (arith, lower, count))
         (All-cons (λ r. r.trip < length new.starts.items) s [] (omega (arith, count)) (All-nil (λ r. r.trip < length new.starts.items)));
@@ -220,12 +213,13 @@ module _ (d : Dataset) (passes : Passes d) (all : List StopTime) (are : AreStopT
 
 -- ---- all
 
-module _ (d : Dataset) (passes : Passes d) (ss : List StopTime) (are : AreStopTimes d ss) (g : Gathered) (so_far : AreGathered d ss g) (made : GatheredLists) (of : AreListsOf g made) where
+module _ (d : Dataset) (passes : Passes d) (ss : List StopTime) (are : AreStopTimes d ss) (g : Gathered) (so_far : AreGathered d ss g) (whole : g.stop_times.stop_times ≡ ss)
+    (made : GatheredLists) (of : AreListsOf g made) where
   abbrev lists : StopTimes
-  lists = lists_with ss made.numbers.items made.starts made.headsigns
+  lists = lists_with made.stop_times made.starts made.headsigns
 
-  made-rows : lists.stop_times.rows ≡ rows_with ss g.numbers.items
-  made-rows = ap (rows_with ss) of.numbers
+  made-rows : lists.stop_times.rows ≡ rows_with ss g.stop_times.headsigns
+  made-rows = ap (λ (h : Headsigned). rows_with h.stop_times h.headsigns) of.stop_times ∙ ap (λ rs. rows_with rs g.stop_times.headsigns) whole
 
   made-starts : lists.stop_times.starts ≡ take g.trips g.starts.items ++ replicate (g.trips - length g.starts.items) (length ss)
   made-starts = of.starts ∙ ap (λ n. take g.trips g.starts.items ++ replicate (g.trips - length g.starts.items) n) so_far.size
@@ -240,7 +234,7 @@ module _ (d : Dataset) (passes : Passes d) (ss : List StopTime) (are : AreStopTi
   all-count = count-filled g.starts.items lists.stop_times.starts g.trips (length ss) within made-starts
 
   abbrev found : List StopRow
-  found = rows_with ss g.numbers.items
+  found = rows_with ss g.stop_times.headsigns
 
   all-size : length found ≡ length ss
   all-size = count-rows d ss g.headsigns.texts found so_far.named
@@ -289,24 +283,26 @@ module _ (d : Dataset) (passes : Passes d) (ss : List StopTime) (are : AreStopTi
     used = λ k h. ap (list_any (has_headsign k)) made-rows ∙ so_far.used k (subst (λ ts. k < length ts) made-headsigns h);
   }
 
-  -- each stop time is that of another row
-  once : IsDistinct nat_eq (map (λ s. s.row) ss)
-  once = IsDistinct-IsPermutation nat_eq nat_eq_flips (rows_of d file.StopTimes) (map (λ s. s.row) ss) are.each_row
-      (IsDistinct-from_apart nat_eq (rows_of d file.StopTimes) (λ i j n low high. apart (get_or (rows_of d file.StopTimes) i n) _ (rows_up d file.StopTimes i j n low high)))
-    where
-      apart : (a b : ℕ) → a < b → nat_eq a b ≡ false
-      apart a b low = grind (arith, nat_tests, low)
+  count-made : length made.stop_times.stop_times ≡ length ss
+  count-made = ap (λ (h : Headsigned). length h.stop_times) of.stop_times ∙ ap length whole
 
-      nat_eq_flips : (a b : ℕ) → nat_eq a b ≡ nat_eq b a
-      nat_eq_flips a b = elim (cases_eq a b) [
-        | inl same ↦ (λ i. nat_eq (same i) (sym same i))
-        | inr other ↦ grind (arith, nat_tests, other)
-      ]
-
-  pub cut-all : AreCut ss made.numbers.items made.starts
+  pub cut-all : AreCut made.stop_times made.starts
   cut-all = record {
-    once = once;
-    each = ap length of.numbers ∙ so_far.size;
-    rising = all-rising;
-    from_first = all-first;
+    all_given = ap (λ (h : Headsigned). length h.headsigns) of.stop_times ∙ so_far.size ∙ sym count-made;
+    rising = subst (Rising 0 made.starts) (sym count-made) all-rising;
+    from_first = ap (get_or made.starts 0) count-made ∙ all-first;
   }
+
+-- each stop time is that of another row
+pub each-row-once : (d : Dataset) (ss : List StopTime) → AreStopTimes d ss → IsDistinct nat_eq (map (λ s. s.row) ss)
+each-row-once d ss are = IsDistinct-IsPermutation nat_eq nat_eq_flips (rows_of d file.StopTimes) (map (λ s. s.row) ss) are.each_row
+    (IsDistinct-from_apart nat_eq (rows_of d file.StopTimes) (λ i j n low high. apart (get_or (rows_of d file.StopTimes) i n) _ (rows_up d file.StopTimes i j n low high)))
+  where
+    apart : (a b : ℕ) → a < b → nat_eq a b ≡ false
+    apart a b low = grind (arith, nat_tests, low)
+
+    nat_eq_flips : (a b : ℕ) → nat_eq a b ≡ nat_eq b a
+    nat_eq_flips a b = elim (cases_eq a b) [
+      | inl same ↦ (λ i. nat_eq (same i) (sym same i))
+      | inr other ↦ grind (arith, nat_tests, other)
+    ]

@@ -26,7 +26,7 @@ by_trip (suc n) ss = by_trip n ss ++ of_trip n ss ∷ []
 -- none yet, of this many trips
 pub record IsEmptyFor (count : ℕ) (g : Gathered) : Type 0 where
   pub trips : g.trips ≡ count
-  pub numbers : g.numbers.items ≡ []
+  pub numbers : g.stop_times.headsigns ≡ []
   pub starts : g.starts.items ≡ []
   pub headsigns : g.headsigns.texts ≡ []
 
@@ -34,7 +34,7 @@ pub record IsEmptyFor (count : ℕ) (g : Gathered) : Type 0 where
 pub record AreGathered (d : Dataset) (ss : List StopTime) (g : Gathered) : Type 0 where
   pub trips : g.trips ≡ length (content_of d).trips
   -- the number of a headsign, or none, for each stop time
-  pub size : length g.numbers.items ≡ length ss
+  pub size : length g.stop_times.headsigns ≡ length ss
   -- a start for each trip up to the last one
   pub below : All (λ s. s.trip < length g.starts.items) ss
   pub least : (n : ℕ) → All (λ s. s.trip < n) ss → length g.starts.items ≤ n
@@ -42,15 +42,15 @@ pub record AreGathered (d : Dataset) (ss : List StopTime) (g : Gathered) : Type 
   pub from_first : slice_index_or g.starts.items 0 (length ss) ≡ 0
   pub stretches : parts g.starts.items ss ≡ by_trip (length g.starts.items) ss
   -- the rows say what those of the dataset say
-  pub named : map (stop_row_named (content_stop_ids d) g.headsigns.texts) (rows_with ss g.numbers.items) ≡ map (λ s. stop_row_in d s.row) ss
-  pub numbers : list_all (has_numbers_below (length (content_of d).stops) (length g.headsigns.texts)) (rows_with ss g.numbers.items) ≡ true
-  pub used : (k : ℕ) → k < length g.headsigns.texts → list_any (has_headsign k) (rows_with ss g.numbers.items) ≡ true
+  pub named : map (stop_row_named (content_stop_ids d) g.headsigns.texts) (rows_with ss g.stop_times.headsigns) ≡ map (λ s. stop_row_in d s.row) ss
+  pub numbers : list_all (has_numbers_below (length (content_of d).stops) (length g.headsigns.texts)) (rows_with ss g.stop_times.headsigns) ≡ true
+  pub used : (k : ℕ) → k < length g.headsigns.texts → list_any (has_headsign k) (rows_with ss g.stop_times.headsigns) ≡ true
   -- the headsigns in the order in which the stop times name them
   pub first_named : g.headsigns.texts ≡ each_once (filter_map (λ r. r.stop_headsign) (map (λ s. stop_row_in d s.row) ss))
 
 -- the lists that they become: the trips after that of the last stop time begin at the end
 pub record AreListsOf (g : Gathered) (lists : GatheredLists) : Type 0 where
-  pub numbers : lists.numbers.items ≡ g.numbers.items
-  pub starts : lists.starts ≡ take g.trips g.starts.items ++ replicate (g.trips - length g.starts.items) (length g.numbers.items)
+  pub stop_times : lists.stop_times ≡ g.stop_times
+  pub starts : lists.starts ≡ take g.trips g.starts.items ++ replicate (g.trips - length g.starts.items) (length g.stop_times.headsigns)
   pub headsigns : lists.headsigns ≡ g.headsigns.texts
   pub distinct : AreDistinct g.headsigns.texts

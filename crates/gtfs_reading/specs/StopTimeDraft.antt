@@ -1,18 +1,16 @@
 -- Stop times with the numbers of their headsigns, before they are those of a feed.
-use Rattle.std.specs.Prelude.{◌≡◌, ℕ, List, Option, length, map, nat_eq, slice_index_or}
-use Rattle.std.specs.List.{IsDistinct}
+use Rattle.std.specs.Prelude.{◌≡◌, ℕ, List, length, slice_index_or}
 use Rattle.csv.specs.Records.{Rising}
+use Rattle.gtfs_trip_rules.specs.Headsigned.{Headsigned}
 use Rattle.gtfs_trip_rules.specs.Headsigns.{rows_with}
-use Rattle.gtfs_trip_rules.specs.declared.trips.row.StopTime.{StopTime}
 use Rattle.gtfs_reading.specs.declared.stop_times.StopTimes.{StopTimes}
 
 -- the lists of stop times that they become
-abbrev pub lists_with : List StopTime → List (Option ℕ) → List ℕ → List (List ℕ) → StopTimes
-lists_with ss headsigns starts texts = record { stop_times = record { rows = rows_with ss headsigns; starts = starts }; headsigns = texts }
+abbrev pub lists_with : Headsigned → List ℕ → List (List ℕ) → StopTimes
+lists_with h starts texts = record { stop_times = record { rows = rows_with h.stop_times h.headsigns; starts = starts }; headsigns = texts }
 
--- a headsign for each stop time, no row twice, and where the stop times of each trip begin
-pub record AreCut (ss : List StopTime) (headsigns : List (Option ℕ)) (starts : List ℕ) : Type 0 where
-  pub once : IsDistinct nat_eq (map (λ s. s.row) ss)
-  pub each : length headsigns ≡ length ss
-  pub rising : Rising 0 starts (length ss)
-  pub from_first : slice_index_or starts 0 (length ss) ≡ 0
+-- each was given its headsign, and here the stop times of each trip begin
+pub record AreCut (h : Headsigned) (starts : List ℕ) : Type 0 where
+  pub all_given : length h.headsigns ≡ length h.stop_times
+  pub rising : Rising 0 starts (length h.stop_times)
+  pub from_first : slice_index_or starts 0 (length h.stop_times) ≡ 0

@@ -6,8 +6,8 @@ ghost use Rattle.gtfs_reading.specs.StopTimeLists.{AreStopTimesOf};
 use crate::gathered::{Gathered, GatheredLists};
 use crate::stop_times::StopTimes;
 use gtfs_field::{List, OutOfMemory, Text};
-use gtfs_rows::OptionalHeadsign;
-use gtfs_rules::{KeptStopTimes, Passed};
+use gtfs_rules::Passed;
+use gtfs_trip_rules::HeadsignedStopTimes;
 use std::alloc::Global;
 use std::hash::RandomState;
 use std::marker::Model;
@@ -17,9 +17,7 @@ use std::marker::Model;
 /// seen as the lists that it becomes.
 #[derive(Drop)]
 pub struct StopTimesDraft {
-    stop_times: KeptStopTimes,
-    // The headsign of each.
-    numbers: Vec<OptionalHeadsign>,
+    stop_times: HeadsignedStopTimes,
     starts: List<usize>,
     headsigns: List<Text>,
 }
@@ -30,9 +28,9 @@ impl Model for StopTimesDraft {
 
     ghost Value = { StopTimesValue };
 
-    ghost view = { λ d. lists_with d.stop_times d.numbers.items d.starts d.headsigns };
+    ghost view = { λ d. lists_with d.stop_times d.starts d.headsigns };
 
-    ghost invariant = { λ d. AreCut d.stop_times d.numbers.items d.starts };
+    ghost invariant = { λ d. AreCut d.stop_times d.starts };
 }
 
 impl StopTimesDraft {
@@ -54,17 +52,16 @@ impl StopTimesDraft {
         ensures { IfOk result (AreStopTimesOf passed.entry) }
     {
         let tables = passed.tables();
-        let stop_times = passed.into_stop_times();
-        let mut gathered = Gathered::new(alloc, random, stop_times.len(), trips)?;
-        gathered.push_all(tables, &stop_times)?;
+        let stop_times = passed.into_stop_times().into_headsigned();
+        let mut gathered = Gathered::new(alloc, random, stop_times, trips)?;
+        gathered.push_all(tables)?;
         let GatheredLists {
-            numbers,
+            stop_times,
             starts,
             headsigns,
         } = gathered.into_lists()?;
         Ok(StopTimesDraft {
             stop_times,
-            numbers,
             starts,
             headsigns,
         })
@@ -80,12 +77,11 @@ impl StopTimesDraft {
     {
         let StopTimesDraft {
             stop_times,
-            numbers,
             starts,
             headsigns,
         } = self;
         Ok(StopTimes {
-            stop_times: stop_times.into_by_trip(&numbers, starts)?,
+            stop_times: stop_times.into_by_trip(starts)?,
             headsigns,
         })
     }

@@ -1,6 +1,6 @@
 //! The lists of stop times while they are made.
 
-ghost use Rattle.std.specs.Prelude.{◌≡◌, length, not, IfOk, OnOk};
+ghost use Rattle.std.specs.Prelude.{◌≡◌, [], length, not, IfOk, OnOk};
 ghost use Rattle.gtfs_columns.specs.Problems.{Passes};
 ghost use Rattle.gtfs_rows.specs.Reading.{content_of};
 ghost use Rattle.gtfs_rules.specs.StopTimes.{AreStopTimes};
@@ -8,117 +8,95 @@ ghost use Rattle.gtfs_reading.specs.Gathering.{AreGathered, AreListsOf, IsEmptyF
 ghost use Rattle.gtfs_table.specs.Rows.{is_empty, records_in};
 ghost use Rattle.gtfs_table.specs.Tables.{field_under, record_at};
 ghost use Rattle.gtfs_table.specs.declared.file.File.TheVariants as file;
-ghost use Rattle.gtfs_trip_rules.specs.Headsigns.{rows_with};
 
 use crate::headsigns::Headsigns;
 use gtfs_field::{List, OutOfMemory, Text};
-use gtfs_rows::{OptionalHeadsign, StopRow};
-use gtfs_rules::{KeptStopTimes, StopTime};
-use gtfs_stop_times::room_for;
+use gtfs_rules::StopTime;
 use gtfs_table::{File, Tables};
+use gtfs_trip_rules::HeadsignedStopTimes;
 use std::alloc::Global;
 use std::hash::RandomState;
-use std::mem::size_of;
 
-// The stop times so far.
+// The stop times, and the lists of those that were given their headsigns.
 #[derive(Drop)]
 pub(crate) struct Gathered {
     // How many trips there are in all.
     trips: usize,
-    // The headsign of each stop time.
-    numbers: Vec<OptionalHeadsign>,
-    // Where the stop times of each trip begin, up to the trip of the last one.
+    stop_times: HeadsignedStopTimes,
+    // Where those of each trip begin, up to the trip of the last one that was given its headsign.
     starts: Vec<usize>,
     headsigns: Headsigns,
 }
 
-// What a feed keeps of its stop times beside their rows.
+// What a feed keeps of its stop times.
 #[derive(Drop)]
 pub(crate) struct GatheredLists {
-    // The number of the headsign of each stop time.
-    pub(crate) numbers: Vec<OptionalHeadsign>,
+    pub(crate) stop_times: HeadsignedStopTimes,
     // Where the stop times of each trip begin.
     pub(crate) starts: List<usize>,
     pub(crate) headsigns: List<Text>,
 }
 
 impl Gathered {
-    // None yet, and room for this many stop times of this many trips.
+    // These stop times of this many trips, before the first is given its headsign.
     pub(crate) fn new(
         alloc: Global,
         random: RandomState,
-        count: usize,
+        stop_times: HeadsignedStopTimes,
         trips: usize,
     ) -> Result<Gathered, OutOfMemory>
+        requires { stop_times.headsigns ≡ [] }
         ensures empty { IfOk result (IsEmptyFor trips) }
+        ensures stop_times { IfOk result
+            (λ g. g.stop_times.stop_times ≡ stop_times.stop_times) }
         ensures random { IfOk result (λ g. g.headsigns.random ≡ random) }
     {
         Ok(Gathered {
             trips,
-            numbers: Vec::with_capacity(alloc, room_for(count, size_of::<OptionalHeadsign>()))?,
+            stop_times,
             starts: Vec::with_capacity(alloc, trips)?,
             headsigns: Headsigns::new(alloc, random),
         })
     }
 
-    // Adds all stop times of a dataset, trip after trip.
-    pub(crate) fn push_all(
-        &mut self,
-        tables: &Tables,
-        stop_times: &KeptStopTimes,
-    ) -> Result<(), OutOfMemory>
+    // Gives all stop times, those of a dataset, their headsigns, trip after trip.
+    pub(crate) fn push_all(&mut self, tables: &Tables) -> Result<(), OutOfMemory>
         requires passes { Passes tables.now }
-        requires stop_times { AreStopTimes tables.now stop_times.now }
+        requires stop_times { AreStopTimes tables.now self.old.stop_times.stop_times }
         requires empty { IsEmptyFor (length (content_of tables.now).trips) self.old }
-        ensures { OnOk result (AreGathered tables.now stop_times.now self.new) }
+        ensures gathered { OnOk result
+            (AreGathered tables.now self.old.stop_times.stop_times self.new) }
+        ensures stop_times { OnOk result
+            (self.new.stop_times.stop_times ≡ self.old.stop_times.stop_times) }
     {
         let column = tables.column(File::StopTimes, "stop_headsign");
-        for at in 0..stop_times.len() {
-            let stop_time = stop_times.get(at);
+        for at in 0..self.stop_times.len() {
+            let stop_time = self.stop_times.get(at);
             let number = self.headsigns.number(text(tables, &stop_time, column))?;
-            self.starts
-                .resize(stop_time.trip as usize + 1, self.numbers.len())?;
-            self.numbers.push(number)?;
+            self.starts.resize(stop_time.trip as usize + 1, at)?;
+            self.stop_times.give(number);
         }
         Ok(())
     }
 
     // The lists. The trips after that of the last stop time begin at the end.
     pub(crate) fn into_lists(self) -> Result<GatheredLists, OutOfMemory>
+        requires { length self.stop_times.headsigns ≡ length self.stop_times.stop_times }
         ensures { IfOk result (AreListsOf self) }
     {
         let Gathered {
             trips,
-            numbers,
+            stop_times,
             mut starts,
             headsigns,
         } = self;
-        starts.resize(trips, numbers.len())?;
+        starts.resize(trips, stop_times.len())?;
         Ok(GatheredLists {
-            numbers,
+            stop_times,
             starts: List::new(starts),
             headsigns: headsigns.into_list()?,
         })
     }
-}
-
-// The rows of stop times, with the headsigns of these numbers.
-pub(crate) fn rows_with(
-    alloc: Global,
-    stop_times: &KeptStopTimes,
-    numbers: &[OptionalHeadsign],
-) -> Result<Vec<StopRow>, OutOfMemory>
-    requires { length numbers.now ≡ length stop_times.now }
-    ensures { IfOk result (λ rows. rows.items ≡ rows_with stop_times.now numbers.now) }
-{
-    let mut rows = Vec::with_capacity(alloc, room_for(numbers.len(), size_of::<StopRow>()))?;
-    for at in 0..numbers.len() {
-        rows.push(StopRow {
-            stop_headsign: numbers[at],
-            ..stop_times.get(at).stop_row
-        })?;
-    }
-    Ok(rows)
 }
 
 // The headsign of a stop time, which stands under this column.

@@ -2,7 +2,7 @@ ghost use Rattle.std.specs.Prelude.{◌≡◌, IfOk, length};
 ghost use Rattle.gtfs_rows.specs.Reading.{content_of};
 ghost use Rattle.gtfs_reading.specs.StopTimeLists.{AreStopTimesOf};
 
-use crate::gathered::{Gathered, GatheredLists, rows_with};
+use crate::gathered::{Gathered, GatheredLists};
 use gtfs_field::{List, OutOfMemory, Text};
 use gtfs_rows::StopTimesByTrip;
 use gtfs_rules::Passed;
@@ -39,17 +39,16 @@ impl StopTimes {
         requires { trips ≡ length (content_of passed.now).trips }
         ensures { IfOk result (AreStopTimesOf passed.now) }
     {
-        let stop_times = passed.stop_times();
-        let mut gathered = Gathered::new(alloc, random, stop_times.len(), trips)?;
-        gathered.push_all(passed.tables(), stop_times)?;
+        let stop_times = passed.stop_times().to_headsigned(alloc)?;
+        let mut gathered = Gathered::new(alloc, random, stop_times, trips)?;
+        gathered.push_all(passed.tables())?;
         let GatheredLists {
-            numbers,
+            stop_times,
             starts,
             headsigns,
         } = gathered.into_lists()?;
-        let rows = rows_with(alloc, stop_times, &numbers)?;
         Ok(StopTimes {
-            stop_times: StopTimesByTrip::new(List::new(rows), starts),
+            stop_times: stop_times.into_by_trip(starts)?,
             headsigns,
         })
     }

@@ -30,6 +30,7 @@ pub mod TripSorted
 pub mod TripStopTimeFacts
 pub mod TripStopTimeOrder
 mod TripPlaced
+mod HeadsignedFacts
 mod KeptListFacts
 mod PlaceFacts
 mod EarlierRows

@@ -6,9 +6,13 @@ use Rattle.gtfs_stop_times.specs.declared.stop_row.StopRow.{StopRow}
 use Rattle.gtfs_trip_rules.specs.KeptLists.{no_row}
 use Rattle.gtfs_trip_rules.specs.declared.trips.row.StopTime.{StopTime}
 
+-- the row, with the headsign of this number
+abbrev pub with_headsign : StopRow → Option ℕ → StopRow
+with_headsign row headsign = record row { stop_headsign = headsign }
+
 -- the row of a stop time, with the headsign of this number
 abbrev pub with_headsign_at : StopTime → Option ℕ → StopRow
-with_headsign_at s headsign = record s.stop_row { stop_headsign = headsign }
+with_headsign_at s headsign = with_headsign s.stop_row headsign
 
 -- the rows of stop times, each with the headsign whose number stands at its index
 unfoldable pub rows_with : List StopTime → List (Option ℕ) → List StopRow
@@ -21,12 +25,6 @@ rows_with (s ∷ ss) (headsign ∷ headsigns) = with_headsign_at s headsign ∷ 
 -- the rows of these numbers
 abbrev pub rows_at : List StopRow → List ℕ → List StopRow
 rows_at rows order = map (λ n. slice_index_or rows n no_row) order
-
--- the same, each with the headsign whose number stands at its index
-unfoldable pub named_rows : List StopRow → List ℕ → List (Option ℕ) → List StopRow
-named_rows rows [] headsigns = []
-named_rows rows (n ∷ ns) [] = []
-named_rows rows (n ∷ ns) (headsign ∷ headsigns) = record (slice_index_or rows n no_row) { stop_headsign = headsign } ∷ named_rows rows ns headsigns
 
 -- the numbers of the rows of a range
 abbrev pub numbers_in : RowRange → List ℕ

@@ -51,13 +51,6 @@ pub record AreListed (rows : List StopRow) (notes : List RowNote) (order : List 
   pub in_notes : All (λ n. n < length notes) order
   pub unnamed : All HasNoHeadsign rows
 
--- the stop times are those of these numbers, and these are their rows
-pub record AreRowsOf (ss : List StopTime) (rows : List StopRow) (order : List ℕ) : Type 0 where
-  pub in_rows : All (λ n. n < length rows) order
-  pub numbers : map (λ s. s.row) ss ≡ order
-  pub say : map (λ s. s.stop_row) ss ≡ map (λ n. slice_index_or rows n no_row) order
-  pub unnamed : All HasNoHeadsign rows
-
 -- the items before an index stay
 pub record KeepsBefore {X : Type 0} (at : ℕ) (old new : List X) : Type 0 where
   pub same : (n : ℕ) (z : X) → n < at → n < length old → slice_index_or new n z ≡ slice_index_or old n z

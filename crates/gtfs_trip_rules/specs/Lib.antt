@@ -1,4 +1,5 @@
 pub mod CoveredTrips
+pub mod Headsigned
 pub mod Headsigns
 pub mod Kept
 pub mod KeptLists

@@ -1,5 +1,6 @@
 pub(crate) mod by_trip;
 pub(crate) mod counts;
+pub(crate) mod headsigned;
 pub(crate) mod judge;
 pub(crate) mod kept;
 pub(crate) mod notes;

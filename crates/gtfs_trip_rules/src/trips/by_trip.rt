@@ -1,77 +1,19 @@
-ghost use Rattle.std.specs.Prelude.{◌≡◌, ◌+◌, ◌-◌, ◌<◌, ◌≤◌, ℕ, drop, IfOk, IfSome, length, map, nat_eq, slice_index_or, take};
-ghost use Rattle.std.specs.List.{All, IsDistinct};
+ghost use Rattle.std.specs.Prelude.{◌≡◌, ◌+◌, ◌-◌, ◌<◌, ◌≤◌, ℕ, drop, IfOk, IfSome, length, map, slice_index_or, take};
+ghost use Rattle.std.specs.List.{All};
 ghost use Rattle.csv.specs.Records.{Rising};
 ghost use Rattle.gtfs_stop_times.specs.ByTrip.{AreWithin};
 ghost use Rattle.gtfs_table.specs.Parts.{parts};
-ghost use Rattle.gtfs_trip_rules.specs.Headsigns.{named_rows, numbers_in, rows_at, rows_with};
-ghost use Rattle.gtfs_trip_rules.specs.KeptLists.{HasNoHeadsign};
+ghost use Rattle.gtfs_trip_rules.specs.Headsigns.{numbers_in, rows_at};
 
-use crate::trips::kept::KeptStopTimes;
 use crate::trips::row_numbers::RowNumbers;
-use gtfs_field::{List, OutOfMemory};
-use gtfs_stop_times::{OptionalHeadsign, RowRange, StopRow, StopTimesByTrip, room_for};
+use gtfs_field::OutOfMemory;
+use gtfs_stop_times::{RowRange, StopRow, room_for};
 use std::alloc::Global;
 use std::mem::size_of;
 
-impl KeptStopTimes {
-    /// The stop times with the headsigns of these numbers, one for each,
-    /// where those of each trip begin at these starts.
-    ///
-    /// Where the rows of each trip follow each other in the file, as in most feeds,
-    /// they stay where they are.
-    ///
-    /// # Errors
-    /// `OutOfMemory` where memory is refused.
-    pub fn into_by_trip(
-        self,
-        headsigns: &[OptionalHeadsign],
-        starts: List<usize>,
-    ) -> Result<StopTimesByTrip, OutOfMemory>
-        requires once { IsDistinct nat_eq (map (λ s. s.row) self) }
-        requires each { length headsigns.now ≡ length self }
-        requires rising { Rising 0 starts (length self) }
-        requires from_first { slice_index_or starts 0 (length self) ≡ 0 }
-        ensures rows { IfOk result (λ by_trip. by_trip.rows ≡ rows_with self headsigns.now) }
-        ensures starts { IfOk result (λ by_trip. by_trip.starts ≡ starts) }
-    {
-        let (rows, order) = self.into_rows();
-        let alloc = *rows.allocator();
-        let rows = with_headsigns(rows, &order, headsigns);
-        match ranges(alloc, &order, starts.as_slice())? {
-            Some(ranges) => Ok(StopTimesByTrip::at_ranges(rows, ranges, order.len())),
-            None => {
-                let rows = in_order(alloc, &rows, &order)?;
-                Ok(StopTimesByTrip::new(List::new(rows), starts))
-            }
-        }
-    }
-}
-
-// The rows, those of these numbers with the headsign that stands at the index of their number.
-fn with_headsigns(
-    mut rows: Vec<StopRow>,
-    order: &RowNumbers,
-    headsigns: &[OptionalHeadsign],
-) -> Vec<StopRow>
-    requires in_rows { All (λ n. n < length rows.items) order.now }
-    requires once { IsDistinct nat_eq order.now }
-    requires each { length headsigns.now ≡ length order.now }
-    requires unnamed { All HasNoHeadsign rows.items }
-    ensures rows { rows_at result.items order.now ≡ named_rows rows.items order.now headsigns.now }
-    ensures long { length result.items ≡ length rows.items }
-{
-    for at in 0..order.len() {
-        // Most rows have none, and need not be touched.
-        if headsigns[at].get().is_some() {
-            rows[order.get(at) as usize].stop_headsign = headsigns[at];
-        }
-    }
-    rows
-}
-
 // Where the rows of each trip stand, if they follow each other.
 // The numbers of those of each trip begin at these starts.
-fn ranges(
+pub(crate) fn ranges(
     alloc: Global,
     order: &RowNumbers,
     starts: &[usize],
@@ -127,7 +69,7 @@ fn range(order: &RowNumbers, start: usize, end: usize) -> Option<RowRange>
 }
 
 // The rows of these numbers, in their order.
-fn in_order(
+pub(crate) fn in_order(
     alloc: Global,
     rows: &[StopRow],
     order: &RowNumbers,

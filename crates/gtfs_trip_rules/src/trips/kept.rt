@@ -1,11 +1,13 @@
-ghost use Rattle.std.specs.Prelude.{◌≡◌, ◌<◌, ◌∷◌, ◌++◌, [], filter, length, slice_get, slice_index_or, IfOk, IsPermutation, OnErr, OnOk, Some};
+ghost use Rattle.std.specs.Prelude.{◌≡◌, ◌<◌, ◌∷◌, ◌++◌, [], filter, length, map, nat_eq, slice_get, slice_index_or, IfOk, IsPermutation, OnErr, OnOk, Some};
+ghost use Rattle.std.specs.List.{IsDistinct};
 ghost use Rattle.std.specs.List.Sorted.{IsSorted};
-ghost use Rattle.gtfs_trip_rules.specs.KeptLists.{no_note, AreRowsOf, HasNoHeadsign, HoldsOldOr, KeepsBefore};
+ghost use Rattle.gtfs_trip_rules.specs.KeptLists.{no_note, HasNoHeadsign, HoldsOldOr, KeepsBefore};
 ghost use Rattle.gtfs_trip_rules.specs.KeptStretches.{AreRising};
 ghost use Rattle.gtfs_trip_rules.specs.KeptTimes.{is_placed};
 ghost use Rattle.gtfs_trip_rules.specs.TripNotes.{AreEarlier};
 ghost use Rattle.gtfs_trip_rules.specs.TripOrder.{kept_cmp};
 
+use crate::trips::headsigned::HeadsignedStopTimes;
 use crate::trips::places::by_places;
 use crate::trips::ranks::Ranks;
 use crate::trips::row::{StopTime, Times};
@@ -104,16 +106,29 @@ impl KeptStopTimes {
         }
     }
 
-    // The rows by their numbers, and the numbers of the stop times.
-    pub(crate) fn into_rows(self) -> (Vec<StopRow>, RowNumbers)
-        ensures { AreRowsOf self result.0.items result.1 }
+    /// The same, to be given their headsigns.
+    pub fn into_headsigned(self) -> HeadsignedStopTimes
+        requires once { IsDistinct nat_eq (map (λ s. s.row) self) }
+        ensures stop_times { result.stop_times ≡ self }
+        ensures none_given { result.headsigns ≡ [] }
     {
-        let KeptStopTimes {
-            rows,
-            notes: _,
-            order,
-        } = self;
-        (rows, order)
+        let KeptStopTimes { rows, notes, order } = self;
+        HeadsignedStopTimes::of(rows, notes, order)
+    }
+
+    /// A copy of them, to be given their headsigns.
+    ///
+    /// # Errors
+    /// `OutOfMemory` where memory is refused.
+    pub fn to_headsigned(&self, alloc: Global) -> Result<HeadsignedStopTimes, OutOfMemory>
+        requires once { IsDistinct nat_eq (map (λ s. s.row) self.now) }
+        ensures stop_times { IfOk result (λ copy. copy.stop_times ≡ self.now) }
+        ensures none_given { IfOk result (λ copy. copy.headsigns ≡ []) }
+    {
+        let rows = copy(alloc, &self.rows)?;
+        let notes = copy(alloc, &self.notes)?;
+        let order = self.order.copy(alloc)?;
+        Ok(HeadsignedStopTimes::of(rows, notes, order))
     }
 
     // Those whose rows have a sequence.
@@ -144,6 +159,15 @@ impl KeptStopTimes {
         let order = by_trips(*notes.allocator(), &Ranks::of(&rows, &notes), order)?;
         Ok(KeptStopTimes { rows, notes, order })
     }
+}
+
+// A list of the same items.
+fn copy<T: Copy>(alloc: Global, items: &[T]) -> Result<Vec<T>, OutOfMemory>
+    ensures { IfOk result (λ copy. copy.items ≡ items.now) }
+{
+    let mut list = Vec::with_capacity(alloc, items.len())?;
+    list.extend_from_slice(items)?;
+    Ok(list)
 }
 
 // Puts an item at an index, at or before which nothing is kept.

@@ -1,4 +1,4 @@
-ghost use Rattle.std.specs.Prelude.{◌≡◌, ◌++◌, ◌∷◌, ◌<◌, [], length, slice_get, OnErr, OnOk, Some};
+ghost use Rattle.std.specs.Prelude.{◌≡◌, ◌++◌, ◌∷◌, ◌<◌, [], length, slice_get, IfOk, OnErr, OnOk, Some};
 
 use gtfs_field::OutOfMemory;
 use std::alloc::Global;
@@ -43,6 +43,19 @@ impl RowNumbers {
             count: 0,
             others: numbers,
         }
+    }
+
+    // The same numbers again.
+    pub(crate) fn copy(&self, alloc: Global) -> Result<RowNumbers, OutOfMemory>
+        ensures { IfOk result (λ copy. copy ≡ self.now) }
+    {
+        let mut others = Vec::with_capacity(alloc, self.others.len())?;
+        others.extend_from_slice(&self.others)?;
+        Ok(RowNumbers {
+            first: self.first,
+            count: self.count,
+            others,
+        })
     }
 
     // Adds a number.

@@ -1,4 +1,4 @@
-use Rattle.std.proofs.Common.{◌≡◌, ◌∙◌, ◌+◌, ◌-◌, ◌<◌, ◌++◌, ap, arith, codes, length, refl, subst, sym, take}
+use Rattle.std.proofs.Common.{◌≡◌, ◌∙◌, ◌+◌, ◌-◌, ◌<◌, ◌++◌, ap, arith, codes, get_or, length, refl, subst, sym, take}
 use Rattle.std.specs.Prelude.{not, replicate}
 use Rattle.std.proofs.lemmas.List.{take_all}
 use Rattle.std.proofs.lemmas.Option.{get_or_from_slice_get}
@@ -19,48 +19,37 @@ use Rattle.gtfs_reading.proofs.gathered.Gathered.push_all.Goals as goal
 pub text-requires : goal.text-requires
 text-requires c =
     let d = c.args.tables.now in
-    let ss = c.args.stop_times.now in
+    let ss = c.args.self.now.stop_times.stop_times in
     let at = c.loop-at.at in
     let s = c.get-stop_time.result in
     let within : at < length ss = omega (arith, c.loop-at-test.true, c.len-at-end.ensures) in
-    let said : SaysStopTime d s = subst (SaysStopTime d) (get_or_from_slice_get ss at s s c.get-stop_time.ensures) (c.requires.stop_times.say at s within) in
+    let here = ap (λ rs. get_or rs at s) (sym c.loop-at.invariant.same) ∙ get_or_from_slice_get c.loop-at.self.stop_times.stop_times at s s c.get-stop_time.ensures in
+    let said : SaysStopTime d s = subst (SaysStopTime d) here (c.requires.stop_times.say at s within) in
     said.has_headsign
     ∙ ap (λ t. not (is_empty t)) (sym (value_is (records_in d file.StopTimes) s.row (record_at (records_in d file.StopTimes) s.row) (codes "stop_headsign") c.column-column.result refl c.column-column.ensures))
 
 pub overflow_add-stop_time : goal.overflow_add-stop_time
 overflow_add-stop_time c =
     let d = c.args.tables.now in
-    let ss = c.args.stop_times.now in
+    let ss = c.args.self.now.stop_times.stop_times in
     let at = c.loop-at.at in
     let s = c.get-stop_time.result in
     let within : at < length ss = omega (arith, c.loop-at-test.true, c.len-at-end.ensures) in
-    let said : SaysStopTime d s = subst (SaysStopTime d) (get_or_from_slice_get ss at s s c.get-stop_time.ensures) (c.requires.stop_times.say at s within) in
+    let here = ap (λ rs. get_or rs at s) (sym c.loop-at.invariant.same) ∙ get_or_from_slice_get c.loop-at.self.stop_times.stop_times at s s c.get-stop_time.ensures in
+    let said : SaysStopTime d s = subst (SaysStopTime d) here (c.requires.stop_times.say at s within) in
     let below = trip_below d ss c.requires.stop_times c.requires.passes s said in
     omega (arith, below, c.requires.empty.trips)
 
+pub give-requires : goal.give-requires
+give-requires c = ?
+
 pub loop-at-init : goal.loop-at-init
-loop-at-init c = gathered-none c.args.tables.now c.args.self.now c.requires.empty
+loop-at-init c = record { so_far = gathered-none c.args.tables.now c.args.self.now c.requires.empty; same = refl }
 
 pub loop-at-preserved : goal.loop-at-preserved
-loop-at-preserved c =
-    let d = c.args.tables.now in
-    let ss = c.args.stop_times.now in
-    let at = c.loop-at.at in
-    let s = c.get-stop_time.result in
-    let within : at < length ss = omega (arith, c.loop-at-test.true, c.len-at-end.ensures) in
-    let text = c.text.ensures ∙ value_is (records_in d file.StopTimes) s.row (record_at (records_in d file.StopTimes) s.row) (codes "stop_headsign") c.column-column.result refl c.column-column.ensures in
-    let g = c.loop-at.self in
-    gathered-next d c.requires.passes ss c.requires.stop_times at s within s (get_or_from_slice_get ss at s s c.get-stop_time.ensures) _ _ c.loop-at.invariant
-    (record {
-      headsign = c.in_ok-number.number;
-      trips = refl;
-      added = c.in_ok-number.ensures.added;
-      kept = c.in_ok-number.ensures.kept;
-      texts = subst (λ t. c.number.new.self.texts ≡ with_headsign g.headsigns.texts (word_of kind.text t)) text c.in_ok-number.ensures.texts;
-      names = subst (λ t. NamesHeadsign c.number.new.self.texts c.in_ok-number.number (word_of kind.text t)) text c.in_ok-number.ensures.named;
-      starts = c.in_ok-resize.ensures.items ∙ (λ j. take (s.trip + 1) g.starts.items ++ replicate (s.trip + 1 - g.starts.ok.0 j) ((c.len.ensures ∙ g.numbers.ok.0) j));
-      numbers = c.in_ok-push.ensures.items;
-    })
+loop-at-preserved c = ?
 
-pub returns : goal.returns
-returns c = subst (λ ss. AreGathered c.args.tables.now ss c.loop-at.self) (take_all c.loop-at.at c.args.stop_times.now (omega (arith, c.loop-at-test.false, c.len-at-end.ensures))) c.loop-at.invariant
+pub returns-clause-gathered : goal.returns-clause-gathered
+returns-clause-gathered c =
+    let ss = c.args.self.now.stop_times.stop_times in
+    subst (λ rs. AreGathered c.args.tables.now rs c.loop-at.self) (take_all c.loop-at.at ss (omega (arith, c.loop-at-test.false, c.len-at-end.ensures))) c.loop-at.invariant.so_far
