@@ -1,6 +1,6 @@
 use Rattle.std.proofs.Common.{◌≡◌, ◌∙◌, ◌+◌, ◌-◌, ◌<◌, ◌++◌, ap, arith, codes, get_or, length, refl, subst, sym, take}
 use Rattle.std.specs.Prelude.{not, replicate}
-use Rattle.std.proofs.lemmas.List.{take_all}
+use Rattle.std.proofs.lemmas.List.{length-take-le, take_all}
 use Rattle.std.proofs.lemmas.Option.{get_or_from_slice_get}
 use Rattle.gtfs_table.specs.Rows.{is_empty, records_in}
 use Rattle.gtfs_table.specs.Tables.{record_at}
@@ -41,13 +41,41 @@ overflow_add-stop_time c =
     omega (arith, below, c.requires.empty.trips)
 
 pub give-requires : goal.give-requires
-give-requires c = ?
+give-requires c =
+    let ss = c.args.self.now.stop_times.stop_times in
+    let at = c.loop-at.at in
+    let within : at < length ss = omega (arith, c.loop-at-test.true, c.len-at-end.ensures) in
+    let inv = c.loop-at.invariant in
+    omega (arith, within, inv.so_far.size, length-take-le at ss (omega (arith, within)), ap length inv.same)
 
 pub loop-at-init : goal.loop-at-init
 loop-at-init c = record { so_far = gathered-none c.args.tables.now c.args.self.now c.requires.empty; same = refl }
 
 pub loop-at-preserved : goal.loop-at-preserved
-loop-at-preserved c = ?
+loop-at-preserved c =
+    let d = c.args.tables.now in
+    let ss = c.args.self.now.stop_times.stop_times in
+    let at = c.loop-at.at in
+    let s = c.get-stop_time.result in
+    let within : at < length ss = omega (arith, c.loop-at-test.true, c.len-at-end.ensures) in
+    let g = c.loop-at.self in
+    let inv = c.loop-at.invariant in
+    let here = ap (λ rs. get_or rs at s) (sym inv.same) ∙ get_or_from_slice_get g.stop_times.stop_times at s s c.get-stop_time.ensures in
+    let text = c.text.ensures ∙ value_is (records_in d file.StopTimes) s.row (record_at (records_in d file.StopTimes) s.row) (codes "stop_headsign") c.column-column.result refl c.column-column.ensures in
+    let given : at ≡ length g.stop_times.headsigns = sym (inv.so_far.size ∙ length-take-le at ss (omega (arith, within))) in
+    record {
+      so_far = gathered-next d c.requires.passes ss c.requires.stop_times at s within s here _ _ inv.so_far (record {
+        headsign = c.in_ok-number.number;
+        trips = refl;
+        added = c.in_ok-number.ensures.added;
+        kept = c.in_ok-number.ensures.kept;
+        texts = subst (λ t. c.number.new.self.texts ≡ with_headsign g.headsigns.texts (word_of kind.text t)) text c.in_ok-number.ensures.texts;
+        names = subst (λ t. NamesHeadsign c.number.new.self.texts c.in_ok-number.number (word_of kind.text t)) text c.in_ok-number.ensures.named;
+        starts = c.in_ok-resize.ensures.items ∙ (λ j. take (s.trip + 1) g.starts.items ++ replicate (s.trip + 1 - g.starts.ok.0 j) (given j));
+        numbers = c.give.ensures.given;
+      });
+      same = c.give.ensures.stop_times ∙ inv.same;
+    }
 
 pub returns-clause-gathered : goal.returns-clause-gathered
 returns-clause-gathered c =

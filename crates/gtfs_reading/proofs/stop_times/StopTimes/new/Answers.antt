@@ -1,19 +1,43 @@
-use Rattle.std.proofs.Common.{◌∙◌, ap, subst, sym}
+use Rattle.std.proofs.Common.{◌∙◌, subst, sym}
 use Rattle.gtfs_columns.specs.Problems.{Passes}
-use Rattle.gtfs_trip_rules.specs.Headsigns.{rows_with}
+use Rattle.gtfs_rules.specs.StopTimes.{AreStopTimes}
 use Rattle.gtfs_reading.specs.Gathering.{AreGathered}
 use Rattle.gtfs_reading.specs.StopTimeLists.{AreStopTimesOf}
-use Rattle.gtfs_reading.proofs.Gathers.{gathered-all}
+use Rattle.gtfs_reading.proofs.Gathers.{cut-all, each-row-once, gathered-all}
 use Rattle.gtfs_reading.proofs.stop_times.StopTimes.new.Goals as goal
+
+pub to_headsigned-requires : goal.to_headsigned-requires
+to_headsigned-requires c = record { once = each-row-once c.args.passed.now c.stop_times.result.now c.stop_times.ensures }
+
+pub into_by_trip-requires-clause-rising : goal.into_by_trip-requires-clause-rising
+into_by_trip-requires-clause-rising c =
+    let d = c.args.passed.now in
+    let ss = c.in_ok-gathered.gathered.stop_times.stop_times in
+    let g = c.push_all.new.self in
+    let are = subst (AreStopTimes d) (sym (c.in_ok-gathered.ensures.stop_times ∙ c.in_ok-stop_times.ensures.stop_times)) c.stop_times.ensures in
+    let passes = subst Passes c.tables.ensures.value c.tables.ensures.passes in
+    let so_far = subst (λ e. AreGathered e ss g) c.tables.ensures.value c.in_ok-push_all.ensures.gathered in
+    (cut-all d passes ss are g so_far c.in_ok-push_all.ensures.stop_times c.in_ok-stop_times-2.field-0 c.in_ok-stop_times-2.ensures).rising
+
+pub into_by_trip-requires-clause-from_first : goal.into_by_trip-requires-clause-from_first
+into_by_trip-requires-clause-from_first c =
+    let d = c.args.passed.now in
+    let ss = c.in_ok-gathered.gathered.stop_times.stop_times in
+    let g = c.push_all.new.self in
+    let are = subst (AreStopTimes d) (sym (c.in_ok-gathered.ensures.stop_times ∙ c.in_ok-stop_times.ensures.stop_times)) c.stop_times.ensures in
+    let passes = subst Passes c.tables.ensures.value c.tables.ensures.passes in
+    let so_far = subst (λ e. AreGathered e ss g) c.tables.ensures.value c.in_ok-push_all.ensures.gathered in
+    (cut-all d passes ss are g so_far c.in_ok-push_all.ensures.stop_times c.in_ok-stop_times-2.field-0 c.in_ok-stop_times-2.ensures).from_first
 
 pub returns : goal.returns
 returns c =
     let d = c.args.passed.now in
-    let ss = c.stop_times-stop_times.result.now in
+    let ss = c.in_ok-gathered.gathered.stop_times.stop_times in
     let g = c.push_all.new.self in
-    let made = c.in_ok-numbers.field-0 in
-    let so_far = subst (λ e. AreGathered e ss g) c.tables.ensures.value c.in_ok-push_all.ensures in
+    let made = c.in_ok-stop_times-2.field-0 in
+    let by_trip = c.in_ok-into_by_trip.ensures in
+    let are = subst (AreStopTimes d) (sym (c.in_ok-gathered.ensures.stop_times ∙ c.in_ok-stop_times.ensures.stop_times)) c.stop_times.ensures in
     let passes = subst Passes c.tables.ensures.value c.tables.ensures.passes in
-    let rows = c.new-3.ensures.rows ∙ c.new-2.ensures ∙ c.in_ok-rows.ensures ∙ ap (rows_with ss) c.deref.ensures.value in
-    subst (AreStopTimesOf d) (sym (λ i. record { stop_times = record { rows = rows i; starts = c.new-3.ensures.starts i }; headsigns = made.headsigns }))
-    (gathered-all d passes ss c.stop_times-stop_times.ensures g so_far made c.in_ok-numbers.ensures)
+    let so_far = subst (λ e. AreGathered e ss g) c.tables.ensures.value c.in_ok-push_all.ensures.gathered in
+    subst (AreStopTimesOf d) (sym (λ i. record { stop_times = record { rows = by_trip.rows i; starts = by_trip.starts i }; headsigns = made.headsigns }))
+    (gathered-all d passes ss are g so_far c.in_ok-push_all.ensures.stop_times made c.in_ok-stop_times-2.ensures)
