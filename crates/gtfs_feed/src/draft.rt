@@ -57,9 +57,12 @@ impl FeedDraft {
         ensures headsigns { IfOk result
             (λ draft. draft.headsigns ≡ headsigns_in (content_of passed.entry)) }
     {
-        let rows = FeedRows::new(alloc, &passed)?;
-        let trips = rows.trips.as_slice().len();
-        let stop_times = StopTimesDraft::new(alloc, random, passed, trips)?;
+        let tables = passed.tables();
+        let (ids, stop_times) = passed.into_parts();
+        // Stop times come first: what is noted of them is let go before other rows are made.
+        let trips = ids.network.trips.len();
+        let stop_times = StopTimesDraft::new(alloc, random, tables, stop_times, trips)?;
+        let rows = FeedRows::new(alloc, tables, &ids.network)?;
         Ok(FeedDraft { rows, stop_times })
     }
 

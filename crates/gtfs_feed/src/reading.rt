@@ -34,8 +34,8 @@ impl Feed {
         ensures headsigns { IfOk result
             (λ feed. feed.headsigns ≡ headsigns_in (content_of_dataset passed.now)) }
     {
-        let rows = FeedRows::new(alloc, passed)?;
-        let trips = rows.trips.as_slice().len();
+        let rows = FeedRows::new(alloc, passed.tables(), &passed.ids().network)?;
+        let trips = rows.trips.len();
         let stop_times = StopTimes::new(alloc, random, passed, trips)?;
         let parts = joined(rows, stop_times);
         Feed::assemble(alloc, random, parts)

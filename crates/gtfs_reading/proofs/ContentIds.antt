@@ -7,6 +7,7 @@ use Rattle.std.specs.FinMap as table
 use Rattle.std.specs.List.{All, AllPairs, range_with_len, slice_get}
 use Rattle.std.specs.declared.cmp.Ordering.TheVariants.{Less, Equal}
 use Rattle.std.proofs.lemmas.Bool.{cases_lt}
+use Rattle.std.proofs.lemmas.List.{length-map}
 use Rattle.std.proofs.lemmas.List.Elements.{All-head, All-tail, filter_passes}
 use Rattle.std.proofs.lemmas.Option.{get_or_from_slice_get, slice_get_within}
 use Rattle.gtfs_field.specs.TextOrder.{text_cmp}
@@ -86,6 +87,13 @@ module _ (d : Dataset) (passes : Passes d) where
 
   pub trips_are : (content_of d).trips ≡ map (trip_in d) (numbered_rows d file.Trips (codes "trip_id"))
   trips_are = content_list d file.Trips (codes "trip_id") (λ t. t.trip_id) (trip_in d) trip_id_at
+
+  -- as many ids as the content has trips
+  pub count_trips : length (ids_by_bytes d file.Trips (codes "trip_id")) ≡ length (content_of d).trips
+  count_trips =
+      let trip_rows = numbered_rows d file.Trips (codes "trip_id") in
+      ap length (ids_are d file.Trips (codes "trip_id")) ∙ length-map trip_rows (λ n. text_in d file.Trips n (codes "trip_id"))
+      ∙ sym (length-map trip_rows (trip_in d)) ∙ ap length (sym trips_are)
 
   stops_are : (content_of d).stops ≡ map (stop_in d) (numbered_rows d file.Stops (codes "stop_id"))
   stops_are = content_list d file.Stops (codes "stop_id") (λ s. s.stop_id) (stop_in d) stop_id_at

@@ -29,7 +29,6 @@ use Rattle.gtfs_reading.specs.FirstNamed.{each_once}
 use Rattle.gtfs_reading.specs.Gathering.{AreGathered, AreListsOf, IsEmptyFor, by_trip}
 use Rattle.gtfs_reading.specs.StopTimeDraft.{AreCut, lists_with}
 use Rattle.gtfs_reading.specs.declared.gathered.GatheredLists.{GatheredLists}
-use Rattle.gtfs_trip_rules.specs.Headsigned.{Headsigned}
 use Rattle.gtfs_trip_rules.specs.Headsigns.{rows_with, with_headsign_at}
 use Rattle.gtfs_rows.specs.Headsigns.{AddsOnly, AreDistinct, KeepsHeadsigns, NamesHeadsign}
 use Rattle.gtfs_reading.specs.HeadsignIndex.{with_headsign}
@@ -216,10 +215,10 @@ module _ (d : Dataset) (passes : Passes d) (all : List StopTime) (are : AreStopT
 module _ (d : Dataset) (passes : Passes d) (ss : List StopTime) (are : AreStopTimes d ss) (g : Gathered) (so_far : AreGathered d ss g) (whole : g.stop_times.stop_times ≡ ss)
     (made : GatheredLists) (of : AreListsOf g made) where
   abbrev lists : StopTimes
-  lists = lists_with made.stop_times made.starts made.headsigns
+  lists = lists_with made.rows made.starts made.headsigns
 
   made-rows : lists.stop_times.rows ≡ rows_with ss g.stop_times.headsigns
-  made-rows = ap (λ (h : Headsigned). rows_with h.stop_times h.headsigns) of.stop_times ∙ ap (λ rs. rows_with rs g.stop_times.headsigns) whole
+  made-rows = of.rows ∙ ap (λ rs. rows_with rs g.stop_times.headsigns) whole
 
   made-starts : lists.stop_times.starts ≡ take g.trips g.starts.items ++ replicate (g.trips - length g.starts.items) (length ss)
   made-starts = of.starts ∙ ap (λ n. take g.trips g.starts.items ++ replicate (g.trips - length g.starts.items) n) so_far.size
@@ -283,15 +282,8 @@ module _ (d : Dataset) (passes : Passes d) (ss : List StopTime) (are : AreStopTi
     used = λ k h. ap (list_any (has_headsign k)) made-rows ∙ so_far.used k (subst (λ ts. k < length ts) made-headsigns h);
   }
 
-  count-made : length made.stop_times.stop_times ≡ length ss
-  count-made = ap (λ (h : Headsigned). length h.stop_times) of.stop_times ∙ ap length whole
-
-  pub cut-all : AreCut made.stop_times made.starts
-  cut-all = record {
-    all_given = ap (λ (h : Headsigned). length h.headsigns) of.stop_times ∙ so_far.size ∙ sym count-made;
-    rising = subst (Rising 0 made.starts) (sym count-made) all-rising;
-    from_first = ap (get_or made.starts 0) count-made ∙ all-first;
-  }
+  pub cut-all : AreCut made.rows made.starts
+  cut-all = record { rising = gathered-all.rising; from_first = gathered-all.from_first }
 
 -- each stop time is that of another row
 pub each-row-once : (d : Dataset) (ss : List StopTime) → AreStopTimes d ss → IsDistinct nat_eq (map (λ s. s.row) ss)

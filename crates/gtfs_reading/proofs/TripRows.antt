@@ -35,7 +35,7 @@ use Rattle.gtfs_rows.specs.Rows.{StopRow}
 use Rattle.gtfs_rows.proofs.ByKey.{by_key_map}
 use Rattle.gtfs_rows.proofs.SameElements.{contains-filter, contains-from_filter, contains-from_map, contains-map, pairs-map}
 use Rattle.gtfs_reading.specs.Gathering.{by_trip, of_trip}
-use Rattle.gtfs_reading.proofs.ContentIds.{ids_are, numbered_rows, one_number, rows_are, trip_id_at, trips_are}
+use Rattle.gtfs_reading.proofs.ContentIds.{count_trips, ids_are, numbered_rows, one_number, rows_are, trip_id_at, trips_are}
 use Rattle.gtfs_reading.proofs.Starts.{by_trip-at, length-by_trip}
 
 -- of two stop times of a trip the first has the lower sequence
@@ -116,17 +116,12 @@ module _ (d : Dataset) (ss : List StopTime) (are : AreStopTimes d ss) where
     abbrev trip_rows : List ℕ
     trip_rows = numbered_rows d file.Trips (codes "trip_id")
 
-    pub count_trips : length trip_ids ≡ length (content_of d).trips
-    count_trips =
-        ap length (ids_are d file.Trips (codes "trip_id")) ∙ length-map trip_rows (λ n. text_in d file.Trips n (codes "trip_id"))
-        ∙ sym (length-map trip_rows (trip_in d)) ∙ ap length (sym (trips_are d passes))
-
     -- its number is one of a trip
     pub trip_below : (s : StopTime) → SaysStopTime d s → s.trip < length (content_of d).trips
     trip_below s says =
         let named : word_in d file.StopTimes s.row "trip_id" ≡ Some (text_in d file.StopTimes s.row (codes "trip_id")) = trip_is d passes s.row says.row in
         let within = slice_get_within trip_ids s.trip (text_in d file.StopTimes s.row (codes "trip_id")) (says.trip ∙ named) in
-        omega (arith, within, count_trips)
+        omega (arith, within, count_trips d passes)
 
     abbrev rows_by_number : List StopTime → List StopRow
     rows_by_number rs = map (λ s. stop_row_in d s.row) rs

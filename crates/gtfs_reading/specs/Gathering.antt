@@ -50,7 +50,7 @@ pub record AreGathered (d : Dataset) (ss : List StopTime) (g : Gathered) : Type 
 
 -- the lists that they become: the trips after that of the last stop time begin at the end
 pub record AreListsOf (g : Gathered) (lists : GatheredLists) : Type 0 where
-  pub stop_times : lists.stop_times ≡ g.stop_times
+  pub rows : lists.rows ≡ rows_with g.stop_times.stop_times g.stop_times.headsigns
   pub starts : lists.starts ≡ take g.trips g.starts.items ++ replicate (g.trips - length g.starts.items) (length g.stop_times.headsigns)
   pub headsigns : lists.headsigns ≡ g.headsigns.texts
   pub distinct : AreDistinct g.headsigns.texts

@@ -1,13 +1,15 @@
 ghost use Rattle.std.specs.Prelude.{◌≡◌, IfOk, length};
+ghost use Rattle.gtfs_columns.specs.Problems.{Passes};
 ghost use Rattle.gtfs_rows.specs.Reading.{content_of};
+ghost use Rattle.gtfs_rules.specs.StopTimes.{AreStopTimes};
 ghost use Rattle.gtfs_reading.specs.StopTimeDraft.{lists_with};
 ghost use Rattle.gtfs_reading.specs.StopTimeLists.{AreStopTimesOf};
 
 use crate::gathered::{Gathered, GatheredLists};
 use crate::stop_times::StopTimes;
 use gtfs_field::{List, OutOfMemory, Text};
-use gtfs_rules::Passed;
-use gtfs_trip_rules::HeadsignedStopTimes;
+use gtfs_table::Tables;
+use gtfs_trip_rules::{HeadsignedRows, KeptStopTimes};
 use std::alloc::Global;
 use std::hash::RandomState;
 use std::marker::Model;
@@ -17,7 +19,7 @@ use std::marker::Model;
 /// seen as the lists that it becomes.
 #[derive(Drop)]
 pub struct StopTimesDraft {
-    stop_times: HeadsignedStopTimes,
+    rows: HeadsignedRows,
     starts: List<usize>,
     headsigns: List<Text>,
 }
@@ -28,9 +30,9 @@ impl Model for StopTimesDraft {
 
     ghost Value = { StopTimesValue };
 
-    ghost view = { λ d. lists_with d.stop_times d.starts d.headsigns };
+    ghost view = { λ d. lists_with d.rows d.starts d.headsigns };
 
-    ghost invariant = { λ d. AreCut d.stop_times d.starts };
+    ghost invariant = { λ d. AreCut d.rows d.starts };
 }
 
 impl StopTimesDraft {
@@ -45,23 +47,25 @@ impl StopTimesDraft {
     pub fn new(
         alloc: Global,
         random: RandomState,
-        passed: Passed<'_>,
+        tables: &Tables,
+        stop_times: KeptStopTimes,
         trips: usize,
     ) -> Result<StopTimesDraft, OutOfMemory>
-        requires { trips ≡ length (content_of passed).trips }
-        ensures { IfOk result (AreStopTimesOf passed.entry) }
+        requires passes { Passes tables.now }
+        requires stop_times { AreStopTimes tables.now stop_times }
+        requires trips { trips ≡ length (content_of tables.now).trips }
+        ensures { IfOk result (AreStopTimesOf tables.now) }
     {
-        let tables = passed.tables();
-        let stop_times = passed.into_stop_times().into_headsigned();
+        let stop_times = stop_times.into_headsigned();
         let mut gathered = Gathered::new(alloc, random, stop_times, trips)?;
         gathered.push_all(tables)?;
         let GatheredLists {
-            stop_times,
+            rows,
             starts,
             headsigns,
         } = gathered.into_lists()?;
         Ok(StopTimesDraft {
-            stop_times,
+            rows,
             starts,
             headsigns,
         })
@@ -76,12 +80,12 @@ impl StopTimesDraft {
         ensures { IfOk result (λ lists. lists ≡ self) }
     {
         let StopTimesDraft {
-            stop_times,
+            rows,
             starts,
             headsigns,
         } = self;
         Ok(StopTimes {
-            stop_times: stop_times.into_by_trip(starts)?,
+            stop_times: rows.into_by_trip(starts)?,
             headsigns,
         })
     }

@@ -22,7 +22,6 @@ use gtfs_field::{List, OutOfMemory, Text};
 use gtfs_rows::{
     Agency, Frequency, Parts, Route, ServiceRow, Stop, StopTimesByTrip, Transfer, Trip,
 };
-use gtfs_rules::Passed;
 use gtfs_table::Tables;
 use std::alloc::Global;
 
@@ -61,19 +60,23 @@ impl Drop for FeedRows {
 }
 
 impl FeedRows {
-    /// The rows of a dataset that passed. An id is looked up once and is a number from then on; a
-    /// route that names no agency has the only one; an empty choice is what it means, and a control
-    /// character in a text is a space.
+    /// The rows of a dataset that passed, which has these ids. An id is looked up once and is a
+    /// number from then on; a route that names no agency has the only one; an empty choice is what
+    /// it means, and a control character in a text is a space.
     ///
     /// # Errors
     /// `OutOfMemory` where a list or a text cannot grow.
-    pub fn new(alloc: Global, passed: &Passed<'_>) -> Result<FeedRows, OutOfMemory>
-        ensures rows { IfOk result (AreRowsOf passed.now) }
-        ensures passes { Passes passed.now }
+    pub fn new(
+        alloc: Global,
+        tables: &Tables,
+        ids: &NetworkIds<'_>,
+    ) -> Result<FeedRows, OutOfMemory>
+        requires passes { Passes tables.now }
+        requires ids { AreNetworkIdsOf tables.now ids.now }
+        ensures { IfOk result (AreRowsOf tables.now) }
     {
         let mut rows = FeedRows::empty(alloc);
-        let ids = &passed.ids().network;
-        rows.read(alloc, passed.tables(), ids).and(Ok(rows))
+        rows.read(alloc, tables, ids).and(Ok(rows))
     }
 
     // Rows of which no list is read yet.

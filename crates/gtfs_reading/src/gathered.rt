@@ -13,7 +13,7 @@ use crate::headsigns::Headsigns;
 use gtfs_field::{List, OutOfMemory, Text};
 use gtfs_rules::StopTime;
 use gtfs_table::{File, Tables};
-use gtfs_trip_rules::HeadsignedStopTimes;
+use gtfs_trip_rules::{HeadsignedRows, HeadsignedStopTimes};
 use std::alloc::Global;
 use std::hash::RandomState;
 
@@ -31,7 +31,8 @@ pub(crate) struct Gathered {
 // What a feed keeps of its stop times.
 #[derive(Drop)]
 pub(crate) struct GatheredLists {
-    pub(crate) stop_times: HeadsignedStopTimes,
+    // The stop times of all trips.
+    pub(crate) rows: HeadsignedRows,
     // Where the stop times of each trip begin.
     pub(crate) starts: List<usize>,
     pub(crate) headsigns: List<Text>,
@@ -92,7 +93,7 @@ impl Gathered {
         } = self;
         starts.resize(trips, stop_times.len())?;
         Ok(GatheredLists {
-            stop_times,
+            rows: stop_times.into_rows(),
             starts: List::new(starts),
             headsigns: headsigns.into_list()?,
         })

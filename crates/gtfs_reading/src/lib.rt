@@ -1,14 +1,14 @@
 //! The typed rows of a feed, of tables that passed the validator.
 //!
-//! [`FeedRows::new`] reads all rows but the stop times of a [`Passed`](gtfs_rules::Passed).
-//! [`StopTimes::new`] makes the lists of stop times of it, whose fields were read when the tables
-//! were checked, but for headsigns. [`FeedRows::with_stop_times`] makes [`Parts`](gtfs_rows::Parts)
-//! of both. A [`StopTimesDraft`] makes the same lists, and needs the tables no more: they can be
-//! let go before its lists are made.
+//! [`FeedRows::new`] reads all rows but the stop times of tables that passed, by the ids of a
+//! [`Passed`](gtfs_rules::Passed). [`StopTimes::new`] makes the lists of stop times of it, whose
+//! fields were read when the tables were checked, but for headsigns. [`FeedRows::with_stop_times`]
+//! makes [`Parts`](gtfs_rows::Parts) of both. A [`StopTimesDraft`] makes the same lists, and needs
+//! the tables no more: they can be let go before its lists are made.
 //!
 //! ```text
-//! let rows = FeedRows::new(alloc, passed)?;
-//! let trips = rows.trips.as_slice().len();
+//! let rows = FeedRows::new(alloc, passed.tables(), &passed.ids().network)?;
+//! let trips = rows.trips.len();
 //! let stop_times = StopTimes::new(alloc, random, passed, trips)?;
 //! rows.with_stop_times(stop_times, headsigns)
 //! ```

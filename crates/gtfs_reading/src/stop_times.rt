@@ -43,12 +43,12 @@ impl StopTimes {
         let mut gathered = Gathered::new(alloc, random, stop_times, trips)?;
         gathered.push_all(passed.tables())?;
         let GatheredLists {
-            stop_times,
+            rows,
             starts,
             headsigns,
         } = gathered.into_lists()?;
         Ok(StopTimes {
-            stop_times: stop_times.into_by_trip(starts)?,
+            stop_times: rows.into_by_trip(starts)?,
             headsigns,
         })
     }

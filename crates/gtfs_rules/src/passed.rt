@@ -69,15 +69,17 @@ impl<'a> Passed<'a> {
         &self.stop_times
     }
 
-    /// The stop times of the dataset, as [`Passed::stop_times`] lends them. The ids are let go.
-    pub fn into_stop_times(self) -> KeptStopTimes
-        ensures { AreStopTimes self.entry result }
+    /// The ids and the stop times of the dataset, as [`Passed::ids`] and [`Passed::stop_times`] lend
+    /// them.
+    pub fn into_parts(self) -> (FeedIds<'a>, KeptStopTimes)
+        ensures ids { AreIdsOf self.entry result.0 }
+        ensures stop_times { AreStopTimes self.entry result.1 }
     {
         let Passed {
             tables: _,
-            ids: _,
+            ids,
             stop_times,
         } = self;
-        stop_times
+        (ids, stop_times)
     }
 }

@@ -149,13 +149,6 @@ unfolding rows_with
 all-rows rows notes [] = refl
 all-rows rows notes (n ∷ ns) = ap (λ rs. get_or rows n no_row ∷ rs) (all-rows rows notes ns)
 
--- ranges have the rows of stop times, of which each trip begins at one of these starts
-pub record HaveRows (list : List StopRow) (order from : List ℕ) (h : Headsigned) (ranges : List RowRange) : Type 0 where
-  pub within : AreWithin (length list) ranges
-  pub len : length (in_turn (map (rows_in list) ranges)).rows ≡ length order
-  pub rows : (in_turn (map (rows_in list) ranges)).rows ≡ rows_with h.stop_times h.headsigns
-  pub starts : (in_turn (map (rows_in list) ranges)).starts ≡ from
-
 module _ (rows : List StopRow) (notes : List RowNote) (order : List ℕ) (left : ℕ) (are : AreGiven rows notes order left)
     (h : Headsigned) (is : headsigned_at rows notes order left ≡ h) (all : length h.headsigns ≡ length h.stop_times) where
   count : length h.stop_times ≡ length order
@@ -173,16 +166,25 @@ module _ (rows : List StopRow) (notes : List RowNote) (order : List ℕ) (left :
       sym (ap (λ ns. rows_with (map (unnamed_at rows notes) order) (headsigns_at rows ns)) each ∙ all-rows rows notes order)
       ∙ ap (λ (g : Headsigned). rows_with g.stop_times g.headsigns) is
 
-  pub in-ranges : (starts : List ℕ) (ranges : List RowRange) → map numbers_in ranges ≡ parts starts order → ((size : ℕ) → All (λ n. n < size) order → AreWithin size ranges)
-      → Rising 0 starts (length h.stop_times) → get_or starts 0 (length h.stop_times) ≡ 0 → HaveRows rows order starts h ranges
-  in-ranges starts ranges found within up first =
-      let inside : AreWithin (length rows) ranges = within (length rows) are.in_rows in
-      let rising : Rising 0 starts (length order) = subst (Rising 0 starts) count up in
-      let begins : get_or starts 0 (length order) ≡ 0 = ap (get_or starts 0) (sym count) ∙ first in
-      let same : (in_turn (map (rows_in rows) ranges)).rows ≡ rows_at rows order = ranges-rows rows order starts ranges inside found rising begins in
-      record {
-        within = inside;
-        len = ap length same ∙ length-map order (λ n. get_or rows n no_row);
-        rows = same ∙ whole;
-        starts = ranges-starts rows order starts ranges inside found rising begins;
-      }
+-- ranges have these rows, of which those of each trip begin at one of these starts
+pub record HaveRows (list : List StopRow) (order from : List ℕ) (ranges : List RowRange) : Type 0 where
+  pub within : AreWithin (length list) ranges
+  pub len : length (in_turn (map (rows_in list) ranges)).rows ≡ length order
+  pub rows : (in_turn (map (rows_in list) ranges)).rows ≡ rows_at list order
+  pub starts : (in_turn (map (rows_in list) ranges)).starts ≡ from
+
+pub in-ranges : (rows : List StopRow) (order starts : List ℕ) (ranges : List RowRange) → All (λ n. n < length rows) order
+    → map numbers_in ranges ≡ parts starts order → ((size : ℕ) → All (λ n. n < size) order → AreWithin size ranges)
+    → Rising 0 starts (length (rows_at rows order)) → get_or starts 0 (length (rows_at rows order)) ≡ 0 → HaveRows rows order starts ranges
+in-ranges rows order starts ranges all found within up first =
+    let count : length (rows_at rows order) ≡ length order = length-map order (λ n. get_or rows n no_row) in
+    let inside : AreWithin (length rows) ranges = within (length rows) all in
+    let rising : Rising 0 starts (length order) = subst (Rising 0 starts) count up in
+    let begins : get_or starts 0 (length order) ≡ 0 = ap (get_or starts 0) (sym count) ∙ first in
+    let same : (in_turn (map (rows_in rows) ranges)).rows ≡ rows_at rows order = ranges-rows rows order starts ranges inside found rising begins in
+    record {
+      within = inside;
+      len = ap length same ∙ count;
+      rows = same;
+      starts = ranges-starts rows order starts ranges inside found rising begins;
+    }

@@ -1,6 +1,7 @@
 pub(crate) mod by_trip;
 pub(crate) mod counts;
 pub(crate) mod headsigned;
+pub(crate) mod headsigned_rows;
 pub(crate) mod judge;
 pub(crate) mod kept;
 pub(crate) mod notes;

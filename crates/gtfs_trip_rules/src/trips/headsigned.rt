@@ -1,15 +1,13 @@
-ghost use Rattle.std.specs.Prelude.{◌≡◌, ◌∷◌, ◌++◌, ◌<◌, [], length, nat_eq, slice_get, slice_index_or, slice_set, IfOk, None, Some};
+ghost use Rattle.std.specs.Prelude.{◌≡◌, ◌∷◌, ◌++◌, ◌<◌, [], length, nat_eq, slice_get, slice_index_or, slice_set, None, Some};
 ghost use Rattle.std.specs.List.{IsDistinct};
-ghost use Rattle.csv.specs.Records.{Rising};
 ghost use Rattle.gtfs_trip_rules.specs.Headsigns.{rows_with, with_headsign};
 ghost use Rattle.gtfs_trip_rules.specs.KeptLists.{no_row, stop_times_at, AreListed};
 
-use crate::trips::by_trip::{in_order, ranges};
+use crate::trips::headsigned_rows::HeadsignedRows;
 use crate::trips::kept::RowNote;
 use crate::trips::row::StopTime;
 use crate::trips::row_numbers::RowNumbers;
-use gtfs_field::{List, OutOfMemory};
-use gtfs_stop_times::{OptionalHeadsign, StopRow, StopTimesByTrip};
+use gtfs_stop_times::{OptionalHeadsign, StopRow};
 use std::marker::Model;
 
 /// Stop times that are given the numbers of their headsigns, one after the other. The numbers are
@@ -95,21 +93,10 @@ impl HeadsignedStopTimes {
         self.left -= 1;
     }
 
-    /// The stop times of all trips with their headsigns, each of which was given, where those of
-    /// each trip begin at these starts.
-    ///
-    /// Where the rows of each trip follow each other in the file, as in most feeds,
-    /// they stay where they are.
-    ///
-    /// # Errors
-    /// `OutOfMemory` where memory is refused.
-    pub fn into_by_trip(self, starts: List<usize>) -> Result<StopTimesByTrip, OutOfMemory>
-        requires all_given { length self.headsigns ≡ length self.stop_times }
-        requires rising { Rising 0 starts (length self.stop_times) }
-        requires from_first { slice_index_or starts 0 (length self.stop_times) ≡ 0 }
-        ensures rows { IfOk result
-            (λ by_trip. by_trip.rows ≡ rows_with self.stop_times self.headsigns) }
-        ensures starts { IfOk result (λ by_trip. by_trip.starts ≡ starts) }
+    /// Their rows with their headsigns, each of which was given. What else is kept of them is let go.
+    pub fn into_rows(self) -> HeadsignedRows
+        requires { length self.headsigns ≡ length self.stop_times }
+        ensures { result ≡ rows_with self.stop_times self.headsigns }
     {
         let HeadsignedStopTimes {
             rows,
@@ -117,14 +104,7 @@ impl HeadsignedStopTimes {
             order,
             left: _,
         } = self;
-        let alloc = *rows.allocator();
-        match ranges(alloc, &order, starts.as_slice())? {
-            Some(ranges) => Ok(StopTimesByTrip::at_ranges(rows, ranges, order.len())),
-            None => {
-                let rows = in_order(alloc, &rows, &order)?;
-                Ok(StopTimesByTrip::new(List::new(rows), starts))
-            }
-        }
+        HeadsignedRows::of(rows, order)
     }
 }
 

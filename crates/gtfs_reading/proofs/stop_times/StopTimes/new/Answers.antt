@@ -17,7 +17,7 @@ into_by_trip-requires-clause-rising c =
     let are = subst (AreStopTimes d) (sym (c.in_ok-gathered.ensures.stop_times ∙ c.in_ok-stop_times.ensures.stop_times)) c.stop_times.ensures in
     let passes = subst Passes c.tables.ensures.value c.tables.ensures.passes in
     let so_far = subst (λ e. AreGathered e ss g) c.tables.ensures.value c.in_ok-push_all.ensures.gathered in
-    (cut-all d passes ss are g so_far c.in_ok-push_all.ensures.stop_times c.in_ok-stop_times-2.field-0 c.in_ok-stop_times-2.ensures).rising
+    (cut-all d passes ss are g so_far c.in_ok-push_all.ensures.stop_times c.in_ok-rows.field-0 c.in_ok-rows.ensures).rising
 
 pub into_by_trip-requires-clause-from_first : goal.into_by_trip-requires-clause-from_first
 into_by_trip-requires-clause-from_first c =
@@ -27,17 +27,17 @@ into_by_trip-requires-clause-from_first c =
     let are = subst (AreStopTimes d) (sym (c.in_ok-gathered.ensures.stop_times ∙ c.in_ok-stop_times.ensures.stop_times)) c.stop_times.ensures in
     let passes = subst Passes c.tables.ensures.value c.tables.ensures.passes in
     let so_far = subst (λ e. AreGathered e ss g) c.tables.ensures.value c.in_ok-push_all.ensures.gathered in
-    (cut-all d passes ss are g so_far c.in_ok-push_all.ensures.stop_times c.in_ok-stop_times-2.field-0 c.in_ok-stop_times-2.ensures).from_first
+    (cut-all d passes ss are g so_far c.in_ok-push_all.ensures.stop_times c.in_ok-rows.field-0 c.in_ok-rows.ensures).from_first
 
 pub returns : goal.returns
 returns c =
     let d = c.args.passed.now in
     let ss = c.in_ok-gathered.gathered.stop_times.stop_times in
     let g = c.push_all.new.self in
-    let made = c.in_ok-stop_times-2.field-0 in
+    let made = c.in_ok-rows.field-0 in
     let by_trip = c.in_ok-into_by_trip.ensures in
     let are = subst (AreStopTimes d) (sym (c.in_ok-gathered.ensures.stop_times ∙ c.in_ok-stop_times.ensures.stop_times)) c.stop_times.ensures in
     let passes = subst Passes c.tables.ensures.value c.tables.ensures.passes in
     let so_far = subst (λ e. AreGathered e ss g) c.tables.ensures.value c.in_ok-push_all.ensures.gathered in
     subst (AreStopTimesOf d) (sym (λ i. record { stop_times = record { rows = by_trip.rows i; starts = by_trip.starts i }; headsigns = made.headsigns }))
-    (gathered-all d passes ss are g so_far c.in_ok-push_all.ensures.stop_times made c.in_ok-stop_times-2.ensures)
+    (gathered-all d passes ss are g so_far c.in_ok-push_all.ensures.stop_times made c.in_ok-rows.ensures)
