@@ -59,10 +59,10 @@ impl FeedDraft {
     {
         let tables = passed.tables();
         let (ids, stop_times) = passed.into_parts();
+        let ids = &ids.network;
         // Stop times come first: what is noted of them is let go before other rows are made.
-        let trips = ids.network.trips.len();
-        let stop_times = StopTimesDraft::new(alloc, random, tables, stop_times, trips)?;
-        let rows = FeedRows::new(alloc, tables, &ids.network)?;
+        let stop_times = StopTimesDraft::new(alloc, random, tables, ids, stop_times)?;
+        let rows = FeedRows::new(alloc, tables, ids)?;
         Ok(FeedDraft { rows, stop_times })
     }
 

@@ -35,8 +35,7 @@ impl Feed {
             (λ feed. feed.headsigns ≡ headsigns_in (content_of_dataset passed.now)) }
     {
         let rows = FeedRows::new(alloc, passed.tables(), &passed.ids().network)?;
-        let trips = rows.trips.len();
-        let stop_times = StopTimes::new(alloc, random, passed, trips)?;
+        let stop_times = StopTimes::new(alloc, random, passed)?;
         let parts = joined(rows, stop_times);
         Feed::assemble(alloc, random, parts)
     }

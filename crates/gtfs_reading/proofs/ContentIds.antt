@@ -19,6 +19,9 @@ use Rattle.gtfs_columns.specs.Columns.{id, required}
 use Rattle.gtfs_columns.specs.IdNumbers.{first_rows, ids_by_bytes}
 use Rattle.gtfs_columns.specs.Problems.{Passes}
 use Rattle.gtfs_columns.specs.Rows.{text_in}
+use Rattle.gtfs_columns.specs.declared.network_ids.NetworkIds.{NetworkIds}
+use Rattle.gtfs_columns.specs.steps.FeedIds.{AreNetworkIdsOf}
+use Rattle.gtfs_columns.specs.steps.Ids.{ids_of}
 use Rattle.gtfs_columns.proofs.ReadFacts.{id_there, stands}
 use Rattle.gtfs_rows.specs.Order.{by_key}
 use Rattle.gtfs_rows.specs.Reading.{content_of, stop_in, text_at, trip_in}
@@ -88,12 +91,15 @@ module _ (d : Dataset) (passes : Passes d) where
   pub trips_are : (content_of d).trips ≡ map (trip_in d) (numbered_rows d file.Trips (codes "trip_id"))
   trips_are = content_list d file.Trips (codes "trip_id") (λ t. t.trip_id) (trip_in d) trip_id_at
 
-  -- as many ids as the content has trips
+  -- as many ids of trips as the content has trips
   pub count_trips : length (ids_by_bytes d file.Trips (codes "trip_id")) ≡ length (content_of d).trips
   count_trips =
       let trip_rows = numbered_rows d file.Trips (codes "trip_id") in
       ap length (ids_are d file.Trips (codes "trip_id")) ∙ length-map trip_rows (λ n. text_in d file.Trips n (codes "trip_id"))
       ∙ sym (length-map trip_rows (trip_in d)) ∙ ap length (sym trips_are)
+
+  pub trips_counted : (ids : NetworkIds) → AreNetworkIdsOf d ids → length (ids_of ids.trips) ≡ length (content_of d).trips
+  trips_counted ids are = ap (λ rows. length (ids_of rows)) are.trips ∙ count_trips
 
   stops_are : (content_of d).stops ≡ map (stop_in d) (numbered_rows d file.Stops (codes "stop_id"))
   stops_are = content_list d file.Stops (codes "stop_id") (λ s. s.stop_id) (stop_in d) stop_id_at

@@ -1,12 +1,13 @@
-ghost use Rattle.std.specs.Prelude.{◌≡◌, IfOk, length};
+ghost use Rattle.std.specs.Prelude.{◌≡◌, IfOk};
 ghost use Rattle.gtfs_columns.specs.Problems.{Passes};
-ghost use Rattle.gtfs_rows.specs.Reading.{content_of};
+ghost use Rattle.gtfs_columns.specs.steps.FeedIds.{AreNetworkIdsOf};
 ghost use Rattle.gtfs_rules.specs.StopTimes.{AreStopTimes};
 ghost use Rattle.gtfs_reading.specs.StopTimeDraft.{lists_with};
 ghost use Rattle.gtfs_reading.specs.StopTimeLists.{AreStopTimesOf};
 
 use crate::gathered::{Gathered, GatheredLists};
 use crate::stop_times::StopTimes;
+use gtfs_columns::NetworkIds;
 use gtfs_field::{List, OutOfMemory, Text};
 use gtfs_table::Tables;
 use gtfs_trip_rules::{HeadsignedRows, KeptStopTimes};
@@ -36,10 +37,10 @@ impl Model for StopTimesDraft {
 }
 
 impl StopTimesDraft {
-    /// The stop times of a dataset that passed, which has this many trips (GTFS Schedule
-    /// Reference, `stop_times.txt`). It takes over what was read when the dataset was checked.
-    /// Only headsigns are read of the tables here. They are hashed by the random state, on
-    /// which the lists do not depend.
+    /// The stop times of a dataset that passed, which has these ids (GTFS Schedule Reference,
+    /// `stop_times.txt`). It takes over what was read when the dataset was checked. Only
+    /// headsigns are read of the tables here. They are hashed by the random state, on which
+    /// the lists do not depend.
     ///
     /// # Errors
     /// `OutOfMemory` where memory is refused,
@@ -48,16 +49,16 @@ impl StopTimesDraft {
         alloc: Global,
         random: RandomState,
         tables: &Tables,
+        ids: &NetworkIds<'_>,
         stop_times: KeptStopTimes,
-        trips: usize,
     ) -> Result<StopTimesDraft, OutOfMemory>
         requires passes { Passes tables.now }
+        requires ids { AreNetworkIdsOf tables.now ids.now }
         requires stop_times { AreStopTimes tables.now stop_times }
-        requires trips { trips ≡ length (content_of tables.now).trips }
         ensures { IfOk result (AreStopTimesOf tables.now) }
     {
         let stop_times = stop_times.into_headsigned();
-        let mut gathered = Gathered::new(alloc, random, stop_times, trips)?;
+        let mut gathered = Gathered::new(alloc, random, stop_times, ids.trips.len())?;
         gathered.push_all(tables)?;
         let GatheredLists {
             rows,

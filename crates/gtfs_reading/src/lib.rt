@@ -8,8 +8,7 @@
 //!
 //! ```text
 //! let rows = FeedRows::new(alloc, passed.tables(), &passed.ids().network)?;
-//! let trips = rows.trips.len();
-//! let stop_times = StopTimes::new(alloc, random, passed, trips)?;
+//! let stop_times = StopTimes::new(alloc, random, passed)?;
 //! rows.with_stop_times(stop_times, headsigns)
 //! ```
 //!

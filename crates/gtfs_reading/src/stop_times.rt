@@ -1,5 +1,4 @@
-ghost use Rattle.std.specs.Prelude.{◌≡◌, IfOk, length};
-ghost use Rattle.gtfs_rows.specs.Reading.{content_of};
+ghost use Rattle.std.specs.Prelude.{IfOk};
 ghost use Rattle.gtfs_reading.specs.StopTimeLists.{AreStopTimesOf};
 
 use crate::gathered::{Gathered, GatheredLists};
@@ -21,7 +20,7 @@ pub struct StopTimes {
 }
 
 impl StopTimes {
-    /// The stop times of a dataset that passed, which has this many trips.
+    /// The stop times of a dataset that passed.
     ///
     /// Each field was read when the dataset was checked. Only headsigns are read of the tables
     /// here, and no row where the file has no such column. Headsigns are hashed by the random
@@ -34,11 +33,10 @@ impl StopTimes {
         alloc: Global,
         random: RandomState,
         passed: &Passed<'_>,
-        trips: usize,
     ) -> Result<StopTimes, OutOfMemory>
-        requires { trips ≡ length (content_of passed.now).trips }
         ensures { IfOk result (AreStopTimesOf passed.now) }
     {
+        let trips = passed.ids().network.trips.len();
         let stop_times = passed.stop_times().to_headsigned(alloc)?;
         let mut gathered = Gathered::new(alloc, random, stop_times, trips)?;
         gathered.push_all(passed.tables())?;
