@@ -10,6 +10,7 @@ mod IdTexts
 mod Keyed
 pub mod OfParts
 mod ReferenceFacts
+mod RepeatedHeadsigns
 mod RowKeys
 mod RowSays
 mod RowsAlike

@@ -22,7 +22,7 @@ no_row = record {
 }
 
 abbrev pub no_note : RowNote
-no_note = record { trip = 0; has_headsign = false; times = times.Unplaced }
+no_note = record { trip = 0; has_headsign = false; repeats_headsign = false; times = times.Unplaced }
 
 -- a row with what is noted of it
 abbrev pub noted_row : ℕ → StopRow → RowNote → StopTime
@@ -30,6 +30,7 @@ noted_row n row note = record {
   trip = note.trip;
   row = n;
   has_headsign = note.has_headsign;
+  repeats_headsign = note.repeats_headsign;
   times = note.times;
   stop_row = row;
 }

@@ -24,6 +24,7 @@ use std::mem::size_of;
 pub(crate) struct RowNote {
     pub(crate) trip: u32,
     pub(crate) has_headsign: bool,
+    pub(crate) repeats_headsign: bool,
     pub(crate) times: Times,
 }
 
@@ -74,6 +75,7 @@ impl KeptStopTimes {
         let note = RowNote {
             trip: stop_time.trip,
             has_headsign: stop_time.has_headsign,
+            repeats_headsign: stop_time.repeats_headsign,
             times: stop_time.times,
         };
         put(&mut self.rows, stop_time.row as usize, stop_time.stop_row)?;
@@ -101,6 +103,7 @@ impl KeptStopTimes {
             trip: note.trip,
             row,
             has_headsign: note.has_headsign,
+            repeats_headsign: note.repeats_headsign,
             times: note.times,
             stop_row: self.rows[row as usize],
         }

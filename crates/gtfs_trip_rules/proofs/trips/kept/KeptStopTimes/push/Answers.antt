@@ -72,5 +72,5 @@ returns-clause-added c =
     let earlier = subst (AreEarlier s.row) (sym c.self.view_is) c.requires.earlier in
     ap (stop_times_at c.put.new.list.items c.put-2.new.list.items) c.in_ok-push.ensures.added
     ∙ one_more k.rows.items c.put.new.list.items k.notes.items c.put-2.new.list.items s.row k.order c.self.invariant earlier c.put.ensures.before c.put-2.ensures.before
-    s.stop_row (record { trip = s.trip; has_headsign = s.has_headsign; times = s.times }) (c.in_ok-put.ensures.here no_row) (c.in_ok-put-2.ensures.here no_note)
+    s.stop_row (record { trip = s.trip; has_headsign = s.has_headsign; repeats_headsign = s.repeats_headsign; times = s.times }) (c.in_ok-put.ensures.here no_row) (c.in_ok-put-2.ensures.here no_note)
     ∙ ap (λ rs. rs ++ s ∷ []) c.self.view_is
