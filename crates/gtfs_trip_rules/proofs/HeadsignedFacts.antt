@@ -13,7 +13,7 @@ use Rattle.gtfs_table.specs.Parts.{parts}
 use Rattle.gtfs_trip_rules.specs.Headsigned.{AreGiven, Headsigned, headsigned_at, headsigns_at, unnamed, unnamed_at}
 use Rattle.gtfs_trip_rules.specs.Headsigns.{numbers_in, rows_at, rows_with, with_headsign}
 use Rattle.gtfs_trip_rules.specs.KeptLists.{AreListed, HasNoHeadsign, no_note, no_row, noted_row, stop_times_at}
-use Rattle.gtfs_trip_rules.specs.declared.trips.kept.RowNote.{RowNote}
+use Rattle.gtfs_trip_rules.specs.declared.trips.row_note.RowNote.{RowNote}
 use Rattle.gtfs_trip_rules.proofs.ByTripFacts.{ranges-rows, ranges-starts}
 
 -- ---- none is given

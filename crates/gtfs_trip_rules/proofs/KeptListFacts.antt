@@ -9,9 +9,10 @@ use Rattle.std.proofs.lemmas.List.Sorted.{All-permutation, IsPermutation-map}
 use Rattle.std.proofs.lemmas.Option.{slice_get-get_or, slice_get-map}
 use Rattle.gtfs_stop_times.specs.declared.stop_row.StopRow.{StopRow}
 use Rattle.gtfs_trip_rules.specs.KeptLists.{no_note, no_row, noted_row, stop_time_at, stop_times_at, AreListed, HasNoHeadsign, HoldsOldOr, KeepsBefore}
+use Rattle.gtfs_trip_rules.specs.RowNotes.{noted}
 use Rattle.gtfs_trip_rules.specs.KeptTimes.{is_placed}
 use Rattle.gtfs_trip_rules.specs.TripNotes.{AreEarlier}
-use Rattle.gtfs_trip_rules.specs.declared.trips.kept.RowNote.{RowNote}
+use Rattle.gtfs_trip_rules.specs.declared.trips.row_note.RowNote.{RowNote}
 use Rattle.gtfs_trip_rules.specs.declared.trips.row.StopTime.{StopTime}
 use Rattle.gtfs_trip_rules.proofs.TripNumberFacts.{map_alike}
 
@@ -36,10 +37,10 @@ module _ (rows : List StopRow) (notes : List RowNote) where
         ∙ (λ i. Some (noted_row n (sym (row_is ∙ get_or_default rows n row no_row of_rows) i) (sym (note_is ∙ get_or_default notes n note no_note of_notes) i)))
 
     -- those of rows with a sequence
-    pub placed_listed : AreListed rows notes (filter (λ n. is_placed (get_or notes n no_note).times) order)
+    pub placed_listed : AreListed rows notes (filter (λ n. is_placed (noted (get_or notes n no_note)).times) order)
     placed_listed = record {
-      in_rows = All-filter (λ n. is_placed (get_or notes n no_note).times) (λ n. n < length rows) order listed.in_rows;
-      in_notes = All-filter (λ n. is_placed (get_or notes n no_note).times) (λ n. n < length notes) order listed.in_notes;
+      in_rows = All-filter (λ n. is_placed (noted (get_or notes n no_note)).times) (λ n. n < length rows) order listed.in_rows;
+      in_notes = All-filter (λ n. is_placed (noted (get_or notes n no_note)).times) (λ n. n < length notes) order listed.in_notes;
       unnamed = listed.unnamed;
     }
 
@@ -54,9 +55,9 @@ module _ (rows : List StopRow) (notes : List RowNote) where
   pub moved_rows : (order new : List ℕ) → IsPermutation order new → IsPermutation (stop_times_at rows notes order) (stop_times_at rows notes new)
   moved_rows order new moved = IsPermutation-map stop_time order new moved
 
-  pub placed_rows : (order : List ℕ) → stop_times_at rows notes (filter (λ n. is_placed (get_or notes n no_note).times) order) ≡ filter (λ r. is_placed r.times) (stop_times_at rows notes order)
+  pub placed_rows : (order : List ℕ) → stop_times_at rows notes (filter (λ n. is_placed (noted (get_or notes n no_note)).times) order) ≡ filter (λ r. is_placed r.times) (stop_times_at rows notes order)
   placed_rows [] = refl
-  placed_rows (n ∷ order) = elim (cases_Bool (is_placed (get_or notes n no_note).times)) [
+  placed_rows (n ∷ order) = elim (cases_Bool (is_placed (noted (get_or notes n no_note)).times)) [
     | inl has ↦ rw (has, placed_rows order) refl
     | inr none ↦ rw (none, placed_rows order) refl
   ]

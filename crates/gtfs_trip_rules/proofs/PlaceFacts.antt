@@ -9,7 +9,7 @@ use Rattle.gtfs_stop_times.specs.declared.stop_row.StopRow.{StopRow}
 use Rattle.gtfs_trip_rules.specs.KeptLists.{stop_time_at, stop_times_at}
 use Rattle.gtfs_trip_rules.specs.KeptPlaces.{place_cmp, IsPlace}
 use Rattle.gtfs_trip_rules.specs.TripOrder.{kept_cmp}
-use Rattle.gtfs_trip_rules.specs.declared.trips.kept.RowNote.{RowNote}
+use Rattle.gtfs_trip_rules.specs.declared.trips.row_note.RowNote.{RowNote}
 use Rattle.gtfs_trip_rules.specs.declared.trips.places.Place.{Place}
 use Rattle.gtfs_trip_rules.specs.declared.trips.row.StopTime.{StopTime}
 use Rattle.gtfs_trip_rules.proofs.TripRanks.{by_rank}

@@ -19,7 +19,7 @@ use Rattle.gtfs_stop_times.specs.declared.stop_row.StopRow.{StopRow}
 use Rattle.gtfs_trip_rules.specs.KeptLists.{stop_time_at, stop_times_at}
 use Rattle.gtfs_trip_rules.specs.KeptStretches.{ascend_from, numbers_of, AreRising, IsStretch}
 use Rattle.gtfs_trip_rules.specs.TripOrder.{kept_cmp}
-use Rattle.gtfs_trip_rules.specs.declared.trips.kept.RowNote.{RowNote}
+use Rattle.gtfs_trip_rules.specs.declared.trips.row_note.RowNote.{RowNote}
 use Rattle.gtfs_trip_rules.specs.declared.trips.row.StopTime.{StopTime}
 use Rattle.gtfs_trip_rules.specs.declared.trips.stretches.Stretch.{Stretch}
 

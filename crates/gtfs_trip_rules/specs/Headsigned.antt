@@ -4,7 +4,7 @@ use Rattle.std.specs.List.{All, IsDistinct}
 use Rattle.gtfs_stop_times.specs.declared.stop_row.StopRow.{StopRow}
 use Rattle.gtfs_trip_rules.specs.Headsigns.{with_headsign}
 use Rattle.gtfs_trip_rules.specs.KeptLists.{no_note, no_row, noted_row}
-use Rattle.gtfs_trip_rules.specs.declared.trips.kept.RowNote.{RowNote}
+use Rattle.gtfs_trip_rules.specs.declared.trips.row_note.RowNote.{RowNote}
 use Rattle.gtfs_trip_rules.specs.declared.trips.row.StopTime.{StopTime}
 
 -- the stop times without headsigns, and the numbers of the headsigns that the first of them were given

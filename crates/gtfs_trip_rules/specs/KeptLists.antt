@@ -1,12 +1,12 @@
 -- Stop times as they are kept: the rows of the file by their numbers, what is noted of each, and the numbers of those that are stop times.
-use Rattle.std.specs.Prelude.{◌≡◌, ◌<◌, ◌⊎◌, ℕ, false, List, length, map, slice_index_or, None}
+use Rattle.std.specs.Prelude.{◌≡◌, ◌<◌, ◌⊎◌, ℕ, List, length, map, slice_index_or, None}
 use Rattle.std.specs.List.{All}
 use Rattle.gtfs_stop_times.specs.declared.choices.DropOffType.TheVariants as drop_off
 use Rattle.gtfs_stop_times.specs.declared.choices.PickupType.TheVariants as pickup
 use Rattle.gtfs_stop_times.specs.declared.stop_row.StopRow.{StopRow}
-use Rattle.gtfs_trip_rules.specs.declared.trips.kept.RowNote.{RowNote}
+use Rattle.gtfs_trip_rules.specs.declared.trips.row_note.RowNote.{RowNote}
 use Rattle.gtfs_trip_rules.specs.declared.trips.row.StopTime.{StopTime}
-use Rattle.gtfs_trip_rules.specs.declared.trips.row.Times.TheVariants as times
+use Rattle.gtfs_trip_rules.specs.RowNotes.{noted}
 
 -- what stands where a list has nothing
 abbrev pub no_row : StopRow
@@ -21,17 +21,18 @@ no_row = record {
   timepoint = None;
 }
 
+-- its row has no sequence
 abbrev pub no_note : RowNote
-no_note = record { trip = 0; has_headsign = false; repeats_headsign = false; times = times.Unplaced }
+no_note = record { packed = 8 }
 
 -- a row with what is noted of it
 abbrev pub noted_row : ℕ → StopRow → RowNote → StopTime
 noted_row n row note = record {
-  trip = note.trip;
+  trip = (noted note).trip;
   row = n;
-  has_headsign = note.has_headsign;
-  repeats_headsign = note.repeats_headsign;
-  times = note.times;
+  has_headsign = (noted note).has_headsign;
+  repeats_headsign = (noted note).repeats_headsign;
+  times = (noted note).times;
   stop_row = row;
 }
 

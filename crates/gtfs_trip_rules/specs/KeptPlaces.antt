@@ -6,7 +6,7 @@ use Rattle.std.specs.declared.cmp.Ordering.{Ordering}
 use Rattle.gtfs_stop_times.specs.declared.stop_row.StopRow.{StopRow}
 use Rattle.gtfs_trip_rules.specs.KeptLists.{stop_time_at}
 use Rattle.gtfs_trip_rules.specs.TripOrder.{rank}
-use Rattle.gtfs_trip_rules.specs.declared.trips.kept.RowNote.{RowNote}
+use Rattle.gtfs_trip_rules.specs.declared.trips.row_note.RowNote.{RowNote}
 use Rattle.gtfs_trip_rules.specs.declared.trips.places.Place.{Place}
 
 -- by rank, and rows of one rank by their numbers

@@ -10,6 +10,7 @@ pub mod KeptStretches
 pub mod KeptTimes
 pub mod PeriodView
 pub mod Readings
+pub mod RowNotes
 pub mod RowsById
 pub mod ServiceFields
 pub mod ServiceRows

@@ -11,5 +11,6 @@ pub(crate) mod places;
 pub(crate) mod ranks;
 pub(crate) mod row;
 pub(crate) mod row_counts;
+pub(crate) mod row_note;
 pub(crate) mod row_numbers;
 pub(crate) mod stretches;

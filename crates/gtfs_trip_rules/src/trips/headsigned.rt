@@ -4,8 +4,8 @@ ghost use Rattle.gtfs_trip_rules.specs.Headsigns.{rows_with, with_headsign};
 ghost use Rattle.gtfs_trip_rules.specs.KeptLists.{no_row, stop_times_at, AreListed};
 
 use crate::trips::headsigned_rows::HeadsignedRows;
-use crate::trips::kept::RowNote;
 use crate::trips::row::StopTime;
+use crate::trips::row_note::RowNote;
 use crate::trips::row_numbers::RowNumbers;
 use gtfs_stop_times::{OptionalHeadsign, StopRow};
 use std::marker::Model;
@@ -69,11 +69,11 @@ impl HeadsignedStopTimes {
         let row = self.order.get(at);
         let note = self.notes[row as usize];
         StopTime {
-            trip: note.trip,
+            trip: note.trip(),
             row,
-            has_headsign: note.has_headsign,
-            repeats_headsign: note.repeats_headsign,
-            times: note.times,
+            has_headsign: note.has_headsign(),
+            repeats_headsign: note.repeats_headsign(),
+            times: note.times(),
             stop_row: StopRow {
                 stop_headsign: OptionalHeadsign::new(None),
                 ..self.rows[row as usize]

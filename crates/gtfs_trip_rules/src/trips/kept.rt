@@ -4,13 +4,15 @@ ghost use Rattle.std.specs.List.Sorted.{IsSorted};
 ghost use Rattle.gtfs_trip_rules.specs.KeptLists.{no_note, HasNoHeadsign, HoldsOldOr, KeepsBefore};
 ghost use Rattle.gtfs_trip_rules.specs.KeptStretches.{AreRising};
 ghost use Rattle.gtfs_trip_rules.specs.KeptTimes.{is_placed};
+ghost use Rattle.gtfs_trip_rules.specs.RowNotes.{noted};
 ghost use Rattle.gtfs_trip_rules.specs.TripNotes.{AreEarlier};
 ghost use Rattle.gtfs_trip_rules.specs.TripOrder.{kept_cmp};
 
 use crate::trips::headsigned::HeadsignedStopTimes;
 use crate::trips::places::by_places;
 use crate::trips::ranks::Ranks;
-use crate::trips::row::{StopTime, Times};
+use crate::trips::row::StopTime;
+use crate::trips::row_note::RowNote;
 use crate::trips::row_numbers::RowNumbers;
 use crate::trips::stretches::by_trips;
 use gtfs_field::OutOfMemory;
@@ -18,15 +20,6 @@ use gtfs_stop_times::{StopRow, room_for};
 use std::alloc::Global;
 use std::marker::Model;
 use std::mem::size_of;
-
-// What is noted of a row beside what it says.
-#[derive(Clone, Copy)]
-pub(crate) struct RowNote {
-    pub(crate) trip: u32,
-    pub(crate) has_headsign: bool,
-    pub(crate) repeats_headsign: bool,
-    pub(crate) times: Times,
-}
 
 /// Stop times in an order, each a row of `stop_times.txt` with its trip. The rows themselves stay
 /// in the order of the file, whichever order the stop times are in.
@@ -72,12 +65,12 @@ impl KeptStopTimes {
         ensures added { OnOk result (self.new ≡ self.old ++ stop_time ∷ []) }
         ensures kept { OnErr result (self.new ≡ self.old) }
     {
-        let note = RowNote {
-            trip: stop_time.trip,
-            has_headsign: stop_time.has_headsign,
-            repeats_headsign: stop_time.repeats_headsign,
-            times: stop_time.times,
-        };
+        let note = RowNote::new(
+            stop_time.trip,
+            stop_time.has_headsign,
+            stop_time.repeats_headsign,
+            stop_time.times,
+        )?;
         put(&mut self.rows, stop_time.row as usize, stop_time.stop_row)?;
         put(&mut self.notes, stop_time.row as usize, note)?;
         self.order.push(stop_time.row)?;
@@ -100,11 +93,11 @@ impl KeptStopTimes {
         let row = self.order.get(at);
         let note = self.notes[row as usize];
         StopTime {
-            trip: note.trip,
+            trip: note.trip(),
             row,
-            has_headsign: note.has_headsign,
-            repeats_headsign: note.repeats_headsign,
-            times: note.times,
+            has_headsign: note.has_headsign(),
+            repeats_headsign: note.repeats_headsign(),
+            times: note.times(),
             stop_row: self.rows[row as usize],
         }
     }
@@ -189,7 +182,7 @@ fn put<T: Copy>(list: &mut Vec<T>, at: usize, item: T) -> Result<(), OutOfMemory
 // Of these numbers those of rows with a sequence.
 fn placed(alloc: Global, notes: &[RowNote], order: &RowNumbers) -> Result<RowNumbers, OutOfMemory>
     ensures { IfOk result (λ rows. rows
-        ≡ filter (λ n. is_placed (slice_index_or notes.now n no_note).times) order.now) }
+        ≡ filter (λ n. is_placed (noted (slice_index_or notes.now n no_note)).times) order.now) }
 {
     let mut rows = RowNumbers::new(alloc);
     for at in 0..order.len() {
@@ -203,10 +196,10 @@ fn placed(alloc: Global, notes: &[RowNote], order: &RowNumbers) -> Result<RowNum
 
 // Whether a row has a sequence.
 fn is_placed(notes: &[RowNote], row: u32) -> bool
-    ensures { result ≡ is_placed (slice_index_or notes.now row no_note).times }
+    ensures { result ≡ is_placed (noted (slice_index_or notes.now row no_note)).times }
 {
     match notes.get(row as usize) {
-        Some(note) => note.times.are_placed(),
+        Some(note) => note.times().are_placed(),
         None => false,
     }
 }

@@ -2,7 +2,7 @@ ghost use Rattle.std.specs.Prelude.{◌≡◌, ◌+◌, ◌*◌, ◌<◌, ◌^�
 ghost use Rattle.gtfs_trip_rules.specs.KeptLists.{stop_time_at};
 ghost use Rattle.gtfs_trip_rules.specs.TripOrder.{rank};
 
-use crate::trips::kept::RowNote;
+use crate::trips::row_note::RowNote;
 use gtfs_stop_times::StopRow;
 
 // The ranks of rows, which stand in lists by their numbers.
@@ -38,7 +38,7 @@ impl<'a> Ranks<'a> {
         ensures { result ≡ (stop_time_at self.now.rows.now self.now.notes.now row).trip }
     {
         match self.notes.get(row as usize) {
-            Some(note) => note.trip,
+            Some(note) => note.trip(),
             None => 0,
         }
     }

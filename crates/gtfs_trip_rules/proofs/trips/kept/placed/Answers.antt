@@ -1,6 +1,7 @@
 use Rattle.std.proofs.Common.{◌<◌, ◌∙◌, ℕ, Bool, arith, get_or, length, sym}
 use Rattle.std.proofs.lemmas.Option.{get_or_from_slice_get}
 use Rattle.gtfs_trip_rules.specs.KeptLists.{no_note}
+use Rattle.gtfs_trip_rules.specs.RowNotes.{noted}
 use Rattle.gtfs_trip_rules.specs.KeptTimes.{is_placed}
 use Rattle.gtfs_trip_rules.proofs.RowNumberFacts.{passes-filter, stays-filter}
 use Rattle.gtfs_trip_rules.proofs.trips.kept.placed.Goals as goal
@@ -10,7 +11,7 @@ pub loop-at-preserved : goal.loop-at-preserved
 loop-at-preserved c =
     let order = c.args.order.now in
     let l = c.loop-at in
-    let P : ℕ → Bool = λ n. is_placed (get_or c.args.notes.now n no_note).times in
+    let P : ℕ → Bool = λ n. is_placed (noted (get_or c.args.notes.now n no_note)).times in
     let within : l.at < length order = omega (arith, c.loop-at-test.true, c.len-at-end.ensures) in
     let here = get_or_from_slice_get order l.at c.get-row.result 0 c.get-row.ensures in
     elim c.if-is_placed.branch [

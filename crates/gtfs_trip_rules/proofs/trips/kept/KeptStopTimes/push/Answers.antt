@@ -1,6 +1,7 @@
 use Rattle.std.proofs.Common.{◌∙◌, ◌++◌, ◌∷◌, [], ap, subst, sym}
 use Rattle.gtfs_table.proofs.FolderFacts.{on_err-always}
 use Rattle.gtfs_trip_rules.specs.KeptLists.{no_note, no_row, stop_times_at}
+use Rattle.gtfs_trip_rules.specs.RowNotes.{Noted}
 use Rattle.gtfs_trip_rules.specs.TripNotes.{AreEarlier}
 use Rattle.gtfs_trip_rules.proofs.KeptListFacts.{kept_itself, listed_more, one_more, still_listed, still_same, still_unnamed}
 use Rattle.gtfs_trip_rules.proofs.trips.kept.KeptStopTimes.push.Goals as goal
@@ -18,7 +19,7 @@ returns-in_err-put-clause-kept c =
     let k = c.self.inside in
     let n = c.args.stop_time.row in
     let earlier = subst (AreEarlier n) (sym c.self.view_is) c.requires.earlier in
-    on_err-always c.from_residual.result _
+    on_err-always c.from_residual-in_err-put.result _
     (still_same k.rows.items c.put.new.list.items k.notes.items k.notes.items n k.order c.self.invariant earlier c.put.ensures.before (kept_itself n k.notes.items) ∙ c.self.view_is)
 
 pub invariant_of-self-in_err-put-2 : goal.invariant_of-self-in_err-put-2
@@ -72,5 +73,6 @@ returns-clause-added c =
     let earlier = subst (AreEarlier s.row) (sym c.self.view_is) c.requires.earlier in
     ap (stop_times_at c.put.new.list.items c.put-2.new.list.items) c.in_ok-push.ensures.added
     ∙ one_more k.rows.items c.put.new.list.items k.notes.items c.put-2.new.list.items s.row k.order c.self.invariant earlier c.put.ensures.before c.put-2.ensures.before
-    s.stop_row (record { trip = s.trip; has_headsign = s.has_headsign; repeats_headsign = s.repeats_headsign; times = s.times }) (c.in_ok-put.ensures.here no_row) (c.in_ok-put-2.ensures.here no_note)
+    s.stop_row c.in_ok-note.note (c.in_ok-put.ensures.here no_row) (c.in_ok-put-2.ensures.here no_note)
+    ∙ ap (λ (x : Noted). stop_times_at k.rows.items k.notes.items k.order ++ record { trip = x.trip; row = s.row; has_headsign = x.has_headsign; repeats_headsign = x.repeats_headsign; times = x.times; stop_row = s.stop_row } ∷ []) c.in_ok-note.ensures
     ∙ ap (λ rs. rs ++ s ∷ []) c.self.view_is
