@@ -40,57 +40,58 @@ C,1,1,1,1,1,1,1,20240401,20240401\n",
 
 const HEADER: &str = "trip_id,arrival_time,departure_time,stop_id,stop_sequence,stop_headsign\n";
 
-// The same stop times in other places.
+// The same stop times in other places. Some have the headsign of the row before them: that of their
+// own trip, or of another.
 const PLACES: [(&str, &str); 7] = [
     (
         "by trip",
-        "T0,05:00:00,05:00:00,M,1,To Pond\nT0,05:10:00,05:10:00,P,2,\n\
-T2,08:00:00,08:00:00,L,1,\nT2,08:10:00,08:10:00,M,4,To Pond\nT2,08:20:00,08:20:00,P,9,\n\
+        "T0,05:00:00,05:00:00,M,1,To Pond\nT0,05:10:00,05:10:00,P,2,To Lake\n\
+T2,08:00:00,08:00:00,L,1,\nT2,08:10:00,08:10:00,M,4,To Pond\nT2,08:20:00,08:20:00,P,9,To Pond\n\
 T3,09:00:00,09:00:00,P,0,To Lake\nT3,09:10:00,09:10:00,L,1,\n",
     ),
     (
         "trips turned round",
         "T3,09:00:00,09:00:00,P,0,To Lake\nT3,09:10:00,09:10:00,L,1,\n\
-T2,08:00:00,08:00:00,L,1,\nT2,08:10:00,08:10:00,M,4,To Pond\nT2,08:20:00,08:20:00,P,9,\n\
-T0,05:00:00,05:00:00,M,1,To Pond\nT0,05:10:00,05:10:00,P,2,\n",
+T2,08:00:00,08:00:00,L,1,\nT2,08:10:00,08:10:00,M,4,To Pond\nT2,08:20:00,08:20:00,P,9,To Pond\n\
+T0,05:00:00,05:00:00,M,1,To Pond\nT0,05:10:00,05:10:00,P,2,To Lake\n",
     ),
     (
         "blank lines between trips",
-        "\nT2,08:00:00,08:00:00,L,1,\nT2,08:10:00,08:10:00,M,4,To Pond\nT2,08:20:00,08:20:00,P,9,\n\n\n\
-T0,05:00:00,05:00:00,M,1,To Pond\nT0,05:10:00,05:10:00,P,2,\n\n\
+        "\nT2,08:00:00,08:00:00,L,1,\nT2,08:10:00,08:10:00,M,4,To Pond\nT2,08:20:00,08:20:00,P,9,To Pond\n\n\n\
+T0,05:00:00,05:00:00,M,1,To Pond\nT0,05:10:00,05:10:00,P,2,To Lake\n\n\
 T3,09:00:00,09:00:00,P,0,To Lake\nT3,09:10:00,09:10:00,L,1,\n",
     ),
     (
         "a row without values in a trip",
-        "T2,08:00:00,08:00:00,L,1,\n,,,,,\nT2,08:10:00,08:10:00,M,4,To Pond\nT2,08:20:00,08:20:00,P,9,\n\
-T0,05:00:00,05:00:00,M,1,To Pond\nT0,05:10:00,05:10:00,P,2,\n\
+        "T2,08:00:00,08:00:00,L,1,\n,,,,,\nT2,08:10:00,08:10:00,M,4,To Pond\nT2,08:20:00,08:20:00,P,9,To Pond\n\
+T0,05:00:00,05:00:00,M,1,To Pond\nT0,05:10:00,05:10:00,P,2,To Lake\n\
 T3,09:00:00,09:00:00,P,0,To Lake\nT3,09:10:00,09:10:00,L,1,\n",
     ),
     (
         "a trip that falls",
-        "T0,05:00:00,05:00:00,M,1,To Pond\nT0,05:10:00,05:10:00,P,2,\n\
-T2,08:20:00,08:20:00,P,9,\nT2,08:10:00,08:10:00,M,4,To Pond\nT2,08:00:00,08:00:00,L,1,\n\
+        "T0,05:00:00,05:00:00,M,1,To Pond\nT0,05:10:00,05:10:00,P,2,To Lake\n\
+T2,08:20:00,08:20:00,P,9,To Pond\nT2,08:10:00,08:10:00,M,4,To Pond\nT2,08:00:00,08:00:00,L,1,\n\
 T3,09:00:00,09:00:00,P,0,To Lake\nT3,09:10:00,09:10:00,L,1,\n",
     ),
     (
         "a trip in two pieces",
         "T2,08:00:00,08:00:00,L,1,\nT3,09:00:00,09:00:00,P,0,To Lake\nT3,09:10:00,09:10:00,L,1,\n\
-T2,08:10:00,08:10:00,M,4,To Pond\nT2,08:20:00,08:20:00,P,9,\n\
-T0,05:00:00,05:00:00,M,1,To Pond\nT0,05:10:00,05:10:00,P,2,\n",
+T2,08:10:00,08:10:00,M,4,To Pond\nT2,08:20:00,08:20:00,P,9,To Pond\n\
+T0,05:00:00,05:00:00,M,1,To Pond\nT0,05:10:00,05:10:00,P,2,To Lake\n",
     ),
     (
         "rows of trips in turn",
         "T0,05:00:00,05:00:00,M,1,To Pond\nT2,08:00:00,08:00:00,L,1,\nT3,09:00:00,09:00:00,P,0,To Lake\n\
-T0,05:10:00,05:10:00,P,2,\nT2,08:10:00,08:10:00,M,4,To Pond\nT3,09:10:00,09:10:00,L,1,\n\
-T2,08:20:00,08:20:00,P,9,\n",
+T0,05:10:00,05:10:00,P,2,To Lake\nT2,08:10:00,08:10:00,M,4,To Pond\nT3,09:10:00,09:10:00,L,1,\n\
+T2,08:20:00,08:20:00,P,9,To Pond\n",
     ),
 ];
 
 // The stop times as they are written.
 const WRITTEN: &str =
     "trip_id,arrival_time,departure_time,stop_id,stop_sequence,stop_headsign,pickup_type,drop_off_type,timepoint\n\
-T0,05:00:00,05:00:00,M,1,To Pond,0,0,\nT0,05:10:00,05:10:00,P,2,,0,0,\n\
-T2,08:00:00,08:00:00,L,1,,0,0,\nT2,08:10:00,08:10:00,M,4,To Pond,0,0,\nT2,08:20:00,08:20:00,P,9,,0,0,\n\
+T0,05:00:00,05:00:00,M,1,To Pond,0,0,\nT0,05:10:00,05:10:00,P,2,To Lake,0,0,\n\
+T2,08:00:00,08:00:00,L,1,,0,0,\nT2,08:10:00,08:10:00,M,4,To Pond,0,0,\nT2,08:20:00,08:20:00,P,9,To Pond,0,0,\n\
 T3,09:00:00,09:00:00,P,0,To Lake,0,0,\nT3,09:10:00,09:10:00,L,1,,0,0,\n";
 
 // A folder with these stop times.
