@@ -10,7 +10,6 @@ mod IdTexts
 mod Keyed
 pub mod OfParts
 mod ReferenceFacts
-mod RepeatedHeadsigns
 mod RowKeys
 mod RowSays
 mod RowsAlike

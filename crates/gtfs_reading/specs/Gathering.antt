@@ -1,13 +1,9 @@
 -- The lists of stop times while they are made.
-use Rattle.std.specs.Prelude.{◌≡◌, ◌<◌, ◌≤◌, ◌==◌, ◌++◌, ◌-◌, ℕ, zero, suc, true, List, [], ◌∷◌, filter, filter_map, length, map, Option, replicate, slice_index_or, take}
+use Rattle.std.specs.Prelude.{◌≡◌, ◌<◌, ◌≤◌, ◌==◌, ◌++◌, ◌-◌, ℕ, zero, suc, true, List, [], ◌∷◌, filter, filter_map, length, map, replicate, slice_index_or, take}
 use Rattle.std.specs.List.{All, list_all, list_any}
 use Rattle.csv.specs.Records.{Rising}
 use Rattle.gtfs_table.specs.Parts.{parts}
-use Rattle.gtfs_table.specs.Rows.{records_in}
-use Rattle.gtfs_table.specs.Tables.{Dataset, field_under, record_at}
-use Rattle.gtfs_table.specs.declared.file.File.TheVariants as file
-use Rattle.gtfs_columns.specs.Columns as kind
-use Rattle.gtfs_columns.specs.Reads.{word_of}
+use Rattle.gtfs_table.specs.Tables.{Dataset}
 use Rattle.gtfs_trip_rules.specs.declared.trips.row.StopTime.{StopTime}
 use Rattle.gtfs_rows.specs.Reading.{content_of, stop_row_in}
 use Rattle.gtfs_reading.specs.FirstNamed.{each_once}
@@ -26,10 +22,6 @@ of_trip k ss = filter (λ s. s.trip == k) ss
 unfoldable pub by_trip : ℕ → List StopTime → List (List StopTime)
 by_trip zero ss = []
 by_trip (suc n) ss = by_trip n ss ++ of_trip n ss ∷ []
-
--- the headsign of a row, under this column
-abbrev pub headsign_under : Dataset → Option ℕ → ℕ → Option (List ℕ)
-headsign_under d column n = word_of kind.text (field_under (record_at (records_in d file.StopTimes) n) column)
 
 -- none yet, of this many trips
 pub record IsEmptyFor (count : ℕ) (g : Gathered) : Type 0 where

@@ -105,6 +105,5 @@ says d passes s row keeps = record {
   pickup_type = said _ _ (choice_there d passes s.row row (stop_time_text d s.row "pickup_type") (pickup_stands d passes s.row row)) keeps.rest.pickup_type;
   drop_off_type = said _ _ (choice_there d passes s.row row (stop_time_text d s.row "drop_off_type") (drop_off_stands d passes s.row row)) keeps.rest.drop_off_type;
   has_headsign = keeps.rest.headsign;
-  repeats_headsign = keeps.rest.repeated;
   timepoint = keeps.rest.timepoint (read_stands (up_to 1) nothing (stop_time_text d s.row "timepoint") (timepoint_stands d passes s.row row));
 }

@@ -11,7 +11,6 @@ use Rattle.gtfs_table.specs.declared.file.File.TheVariants as file
 use Rattle.gtfs_stop_times.specs.Choices.{drop_off_code, pickup_code, timepoint_code}
 use Rattle.gtfs_columns.specs.IdNumbers.{id_numbered}
 use Rattle.gtfs_columns.specs.Rows.{amount_in, choice_in, is_empty_in, word_in}
-use Rattle.gtfs_trip_rules.specs.StopTimes.{is_headsign_repeated}
 use Rattle.gtfs_trip_rules.specs.declared.trips.row.StopTime.{StopTime}
 
 -- a stop time says what its row says; the row's texts are read by its number
@@ -26,7 +25,6 @@ pub record SaysStopTime (d : Dataset) (s : StopTime) : Type 0 where
   pub drop_off_type : Some (pos (drop_off_code s.stop_row.drop_off_type)) ≡ choice_in d file.StopTimes s.row "drop_off_type"
   pub timepoint : option_map pos (option_map timepoint_code s.stop_row.timepoint) ≡ amount_in d file.StopTimes s.row "timepoint"
   pub has_headsign : s.has_headsign ≡ not (is_empty_in d file.StopTimes s.row "stop_headsign")
-  pub repeats_headsign : s.repeats_headsign ≡ is_headsign_repeated d s.row
 
 -- by trip, and in a trip by sequence
 abbrev pub stop_time_cmp : StopTime → StopTime → Ordering

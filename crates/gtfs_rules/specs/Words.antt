@@ -31,8 +31,6 @@ pub use Rattle.gtfs_columns.specs.Codes.{is_error}
 pub use Rattle.gtfs_rules.specs.StopTimes.{AreStopTimes}
 -- a stop time has the values of its row, with numbers in place of ids
 pub use Rattle.gtfs_rules.specs.StopTimes.{SaysStopTime}
--- a row has a headsign, and the record before it the same
-pub use Rattle.gtfs_trip_rules.specs.StopTimes.{is_headsign_repeated}
 -- the order of stop times: by trip, and in a trip by sequence
 pub use Rattle.gtfs_rules.specs.StopTimes.{stop_time_cmp}
 -- the ids of a column, each once, ascending by their bytes

@@ -27,7 +27,7 @@ use std::alloc::Global;
 ///
 /// # Errors
 /// `OutOfMemory` where memory ran out, and where stop_times.txt has more than 4,294,967,295 rows,
-/// or there are more than 268,435,456 trips.
+/// or there are more than 536,870,912 trips.
 pub fn check<'a>(alloc: Global, tables: &'a Tables) -> Result<Report<'a>, OutOfMemory>
     ensures dataset { IfOk result (λ report. report.dataset ≡ tables.now) }
     ensures report { IfOk result (λ report. IsReport tables.now report.problems) }

@@ -197,7 +197,6 @@ module _ (d : Dataset) (n : ℕ) (s : ReadStopTime) (is : IsStopTime d n s) wher
         pickup_type = chosen pickup_code pickup.Regular refl (stop_time_text d n "pickup_type") s.pickup_type is.pickup_type;
         drop_off_type = chosen drop_off_code drop_off.Regular refl (stop_time_text d n "drop_off_type") s.drop_off_type is.drop_off_type;
         headsign = is.has_headsign;
-        repeated = is.repeats_headsign;
         timepoint = exactness (stop_time_text d n "timepoint") s.timepoint is.timepoint;
       }
 

@@ -10,7 +10,7 @@ use Rattle.gtfs_columns.specs.ReadRules.{IsReadAs}
 use Rattle.gtfs_columns.specs.Reads.{amount_of, choice_of, word_of}
 use Rattle.gtfs_stop_times.specs.Choices.{drop_off_code, pickup_code, timepoint_code}
 use Rattle.gtfs_trip_rules.specs.declared.trips.row.StopTime.{StopTime}
-use Rattle.gtfs_trip_rules.specs.StopTimes.{is_headsign_repeated, stop_time_text}
+use Rattle.gtfs_trip_rules.specs.StopTimes.{stop_time_text}
 
 -- ---- a row
 
@@ -31,7 +31,6 @@ pub record KeepsRow (d : Dataset) (n : ℕ) (r : StopTime) : Type 0 where
   pub pickup_type : (x : ℤ) → choice_of ((0, 3) ∷ []) (codes "0") (stop_time_text d n "pickup_type") ≡ Some x → pos (pickup_code r.stop_row.pickup_type) ≡ x
   pub drop_off_type : (x : ℤ) → choice_of ((0, 3) ∷ []) (codes "0") (stop_time_text d n "drop_off_type") ≡ Some x → pos (drop_off_code r.stop_row.drop_off_type) ≡ x
   pub headsign : r.has_headsign ≡ not (is_empty (stop_time_text d n "stop_headsign"))
-  pub repeated : r.repeats_headsign ≡ is_headsign_repeated d n
   pub timepoint : IsReadAs (up_to 1) (stop_time_text d n "timepoint") → option_map pos (option_map timepoint_code r.stop_row.timepoint) ≡ amount_of (up_to 1) (stop_time_text d n "timepoint")
 
 -- and with its trip

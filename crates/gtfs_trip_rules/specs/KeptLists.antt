@@ -23,7 +23,7 @@ no_row = record {
 
 -- its row has no sequence
 abbrev pub no_note : RowNote
-no_note = record { packed = 8 }
+no_note = record { packed = 4 }
 
 -- a row with what is noted of it
 abbrev pub noted_row : ℕ → StopRow → RowNote → StopTime
@@ -31,7 +31,6 @@ noted_row n row note = record {
   trip = (noted note).trip;
   row = n;
   has_headsign = (noted note).has_headsign;
-  repeats_headsign = (noted note).repeats_headsign;
   times = (noted note).times;
   stop_row = row;
 }

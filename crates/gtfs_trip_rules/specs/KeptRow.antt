@@ -33,7 +33,6 @@ kept_row s stop = record {
   trip = 0;
   row = s.row;
   has_headsign = s.has_headsign;
-  repeats_headsign = s.repeats_headsign;
   times = times_of (is_some (value_in s.stop_sequence)) (is_fault s.arrival_time || is_fault s.departure_time);
   stop_row = row_said s stop;
 }
@@ -44,7 +43,6 @@ with_trip r trip = record {
   trip = trip;
   row = r.row;
   has_headsign = r.has_headsign;
-  repeats_headsign = r.repeats_headsign;
   times = r.times;
   stop_row = r.stop_row;
 }

@@ -7,7 +7,6 @@ use Rattle.gtfs_trip_rules.specs.declared.trips.row.Times.TheVariants as times
 pub record Noted : Type 0 where
   pub trip : ℕ
   pub has_headsign : Bool
-  pub repeats_headsign : Bool
   pub times : Times
 
 -- how the times of a row stand, by a number
@@ -16,13 +15,12 @@ times_numbered zero = times.Clear
 times_numbered (suc zero) = times.Unclear
 times_numbered (suc (suc n)) = times.Unplaced
 
--- the note that a number is: four bits, and above them the number of the trip
+-- the note that a number is: three bits, and above them the number of the trip
 abbrev pub unpacked : ℕ → Noted
 unpacked n = record {
-  trip = n / 16;
+  trip = n / 8;
   has_headsign = n % 2 == 1;
-  repeats_headsign = n / 2 % 2 == 1;
-  times = times_numbered (n / 4 % 4);
+  times = times_numbered (n / 2 % 4);
 }
 
 abbrev pub noted : RowNote → Noted

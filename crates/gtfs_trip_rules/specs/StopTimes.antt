@@ -1,5 +1,5 @@
 -- The rows of stop_times.txt, each field of which was read once.
-use Rattle.std.specs.Prelude.{◌≡◌, ℕ, ◌||◌, ◌&&◌, ◌-◌, bytes_eq, Bool, true, false, List, [], ◌∷◌, codes, not, option_and_then, option_map, Option, is_some, pos}
+use Rattle.std.specs.Prelude.{◌≡◌, ℕ, ◌||◌, Bool, true, false, List, [], ◌∷◌, codes, not, option_and_then, option_map, Option, is_some, pos}
 use Rattle.std.specs.List.{list_any}
 use Prim.Native.String.{String as Literal}
 use Rattle.gtfs_table.specs.Tables.{Dataset, column_of}
@@ -51,11 +51,6 @@ pub record IsReading {V : Type 0} (kind : Kind) (as_value : V → Value) (t : Li
   pub fault : fault_in r ≡ fault_of kind t
   pub value : option_map as_value (value_in r) ≡ readable kind t
 
--- whether it has a headsign, and the record before it the same
-abbrev pub is_headsign_repeated : Dataset → ℕ → Bool
-is_headsign_repeated d n =
-    not (is_empty (stop_time_text d n "stop_headsign")) && bytes_eq (stop_time_text d (n - 1) "stop_headsign") (stop_time_text d n "stop_headsign")
-
 -- what a row says
 pub record IsStopTime (d : Dataset) (n : ℕ) (s : ReadStopTime) : Type 0 where
   pub row : s.row ≡ n
@@ -67,7 +62,6 @@ pub record IsStopTime (d : Dataset) (n : ℕ) (s : ReadStopTime) : Type 0 where
   pub stop_sequence : IsReading count (λ x. amount (pos x)) (stop_time_text d n "stop_sequence") s.stop_sequence
   pub stop_headsign : s.stop_headsign ≡ fault_of text (stop_time_text d n "stop_headsign")
   pub has_headsign : s.has_headsign ≡ not (is_empty (stop_time_text d n "stop_headsign"))
-  pub repeats_headsign : s.repeats_headsign ≡ is_headsign_repeated d n
   pub pickup_type : IsReading (up_to 3) (λ b. amount (pos (pickup_code b))) (stop_time_text d n "pickup_type") s.pickup_type
   pub drop_off_type : IsReading (up_to 3) (λ b. amount (pos (drop_off_code b))) (stop_time_text d n "drop_off_type") s.drop_off_type
   pub timepoint : IsReading (up_to 1) (λ e. amount (pos (timepoint_code e))) (stop_time_text d n "timepoint") s.timepoint

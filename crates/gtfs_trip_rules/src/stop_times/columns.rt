@@ -5,7 +5,7 @@ ghost use Rattle.gtfs_columns.specs.steps.ColumnView.{kind_of};
 ghost use Rattle.gtfs_trip_rules.specs.KeptRow.{kept_row, row_said, times_of};
 ghost use Rattle.gtfs_trip_rules.specs.Readings.{fault_of, is_fault, value_in};
 ghost use Rattle.gtfs_table.specs.Rows.{records_in};
-ghost use Rattle.gtfs_trip_rules.specs.StopTimes.{is_headsign_repeated, stop_time_text, AreStopTimeColumns, IsReading, IsStopTime};
+ghost use Rattle.gtfs_trip_rules.specs.StopTimes.{stop_time_text, AreStopTimeColumns, IsReading, IsStopTime};
 ghost use Rattle.gtfs_columns.specs.Columns.{id};
 ghost use Rattle.gtfs_columns.specs.Values.{word};
 
@@ -14,7 +14,7 @@ use crate::stop_times::reading::{
     read_timepoint,
 };
 use crate::trips::row::{StopTime, Times, small_number};
-use gtfs_columns::{Code, Kind, are_equal, fault_code};
+use gtfs_columns::{Code, Kind, fault_code};
 use gtfs_field::{Clock, OutOfMemory};
 use gtfs_stop_times::{
     DropOffType, OptionalClock, OptionalHeadsign, PickupType, StopNo, StopRow, Timepoint,
@@ -51,8 +51,6 @@ pub(crate) struct ReadStopTime<'a> {
     // What is wrong with this field.
     pub(crate) stop_headsign: Option<Code>,
     pub(crate) has_headsign: bool,
-    // Whether it has one that is that of the record before it too.
-    pub(crate) repeats_headsign: bool,
     pub(crate) pickup_type: Reading<PickupType>,
     pub(crate) drop_off_type: Reading<DropOffType>,
     pub(crate) timepoint: Reading<Timepoint>,
@@ -68,7 +66,6 @@ impl ReadStopTime<'_> {
             trip: 0,
             row: small_number(self.row)?,
             has_headsign: self.has_headsign,
-            repeats_headsign: self.repeats_headsign,
             times: self.times(),
             stop_row: self.stop_row(stop),
         })
@@ -161,27 +158,10 @@ impl<'a> StopTimeColumns<'a> {
             stop_sequence: read_number(record.value(self.stop_sequence)),
             stop_headsign: fault_in_text(Kind::Text, headsign),
             has_headsign: !headsign.is_empty(),
-            repeats_headsign: self.repeats_headsign(row, headsign),
             pickup_type: read_pickup_type(record.value(self.pickup_type)),
             drop_off_type: read_drop_off_type(record.value(self.drop_off_type)),
             timepoint: read_timepoint(record.value(self.timepoint)),
         }
-    }
-
-    // Whether a row has a headsign, this one, and the record before it has the same.
-    #[inline(always)]
-    fn repeats_headsign(&self, row: usize, headsign: &str) -> bool
-        requires columns { AreStopTimeColumns self.now.tables.now self.now }
-        requires headsign { headsign.now
-            ≡ stop_time_text self.now.tables.now row "stop_headsign" }
-        ensures { result ≡ is_headsign_repeated self.now.tables.now row }
-    {
-        if headsign.is_empty() {
-            return false;
-        }
-        let before = self.tables.record(File::StopTimes, row.saturating_sub(1));
-        let other = before.value(self.stop_headsign);
-        are_equal(other.as_bytes(), headsign.as_bytes())
     }
 }
 

@@ -72,7 +72,6 @@ impl HeadsignedStopTimes {
             trip: note.trip(),
             row,
             has_headsign: note.has_headsign(),
-            repeats_headsign: note.repeats_headsign(),
             times: note.times(),
             stop_row: StopRow {
                 stop_headsign: OptionalHeadsign::new(None),

@@ -65,12 +65,7 @@ impl KeptStopTimes {
         ensures added { OnOk result (self.new ≡ self.old ++ stop_time ∷ []) }
         ensures kept { OnErr result (self.new ≡ self.old) }
     {
-        let note = RowNote::new(
-            stop_time.trip,
-            stop_time.has_headsign,
-            stop_time.repeats_headsign,
-            stop_time.times,
-        )?;
+        let note = RowNote::new(stop_time.trip, stop_time.has_headsign, stop_time.times)?;
         put(&mut self.rows, stop_time.row as usize, stop_time.stop_row)?;
         put(&mut self.notes, stop_time.row as usize, note)?;
         self.order.push(stop_time.row)?;
@@ -96,7 +91,6 @@ impl KeptStopTimes {
             trip: note.trip(),
             row,
             has_headsign: note.has_headsign(),
-            repeats_headsign: note.repeats_headsign(),
             times: note.times(),
             stop_row: self.rows[row as usize],
         }

@@ -27,8 +27,6 @@ pub struct StopTime {
     pub row: u32,
     /// Whether its row has a headsign, a field that is not blank.
     pub has_headsign: bool,
-    /// Whether its row has a headsign that is that of the record before it too.
-    pub repeats_headsign: bool,
     pub(crate) times: Times,
     /// What the row says, without its headsign.
     pub stop_row: StopRow,

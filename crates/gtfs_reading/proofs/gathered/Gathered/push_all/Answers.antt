@@ -13,12 +13,11 @@ use Rattle.gtfs_rows.specs.Headsigns.{NamesHeadsign}
 use Rattle.gtfs_rules.specs.StopTimes.{SaysStopTime}
 use Rattle.gtfs_reading.specs.HeadsignIndex.{with_headsign}
 use Rattle.gtfs_reading.proofs.Gathers.{gathered-next, gathered-none}
-use Rattle.gtfs_reading.proofs.RepeatedHeadsigns.{repeated-under}
 use Rattle.gtfs_reading.proofs.TripRows.{trip_below}
 use Rattle.gtfs_reading.proofs.gathered.Gathered.push_all.Goals as goal
 
-pub headsign_number-requires-clause-has : goal.headsign_number-requires-clause-has
-headsign_number-requires-clause-has c =
+pub text-requires : goal.text-requires
+text-requires c =
     let d = c.args.tables.now in
     let ss = c.args.self.now.stop_times.stop_times in
     let at = c.loop-at.at in
@@ -28,17 +27,6 @@ headsign_number-requires-clause-has c =
     let said : SaysStopTime d s = subst (SaysStopTime d) here (c.requires.stop_times.say at s within) in
     said.has_headsign
     ∙ ap (λ t. not (is_empty t)) (sym (value_is (records_in d file.StopTimes) s.row (record_at (records_in d file.StopTimes) s.row) (codes "stop_headsign") c.column-column.result refl c.column-column.ensures))
-
-pub headsign_number-requires-clause-repeats : goal.headsign_number-requires-clause-repeats
-headsign_number-requires-clause-repeats c = λ repeated.
-    let d = c.args.tables.now in
-    let ss = c.args.self.now.stop_times.stop_times in
-    let at = c.loop-at.at in
-    let s = c.get-stop_time.result in
-    let within : at < length ss = omega (arith, c.loop-at-test.true, c.len-at-end.ensures) in
-    let here = ap (λ rs. get_or rs at s) (sym c.loop-at.invariant.same) ∙ get_or_from_slice_get c.loop-at.self.stop_times.stop_times at s s c.get-stop_time.ensures in
-    let said : SaysStopTime d s = subst (SaysStopTime d) here (c.requires.stop_times.say at s within) in
-    repeated-under d c.column-column.result c.column-column.ensures s.row (sym said.repeats_headsign ∙ repeated)
 
 pub overflow_add-stop_time : goal.overflow_add-stop_time
 overflow_add-stop_time c =
@@ -61,7 +49,7 @@ give-requires c =
     omega (arith, within, inv.so_far.size, length-take-le at ss (omega (arith, within)), ap length inv.same)
 
 pub loop-at-init : goal.loop-at-init
-loop-at-init c = record { so_far = gathered-none c.args.tables.now c.args.self.now c.requires.empty; same = refl; last = tt }
+loop-at-init c = record { so_far = gathered-none c.args.tables.now c.args.self.now c.requires.empty; same = refl }
 
 pub loop-at-preserved : goal.loop-at-preserved
 loop-at-preserved c =
@@ -73,21 +61,20 @@ loop-at-preserved c =
     let g = c.loop-at.self in
     let inv = c.loop-at.invariant in
     let here = ap (λ rs. get_or rs at s) (sym inv.same) ∙ get_or_from_slice_get g.stop_times.stop_times at s s c.get-stop_time.ensures in
-    let text = value_is (records_in d file.StopTimes) s.row (record_at (records_in d file.StopTimes) s.row) (codes "stop_headsign") c.column-column.result refl c.column-column.ensures in
+    let text = c.text.ensures ∙ value_is (records_in d file.StopTimes) s.row (record_at (records_in d file.StopTimes) s.row) (codes "stop_headsign") c.column-column.result refl c.column-column.ensures in
     let given : at ≡ length g.stop_times.headsigns = sym (inv.so_far.size ∙ length-take-le at ss (omega (arith, within))) in
     record {
       so_far = gathered-next d c.requires.passes ss c.requires.stop_times at s within s here _ _ inv.so_far (record {
-        headsign = c.in_ok-headsign.headsign;
+        headsign = c.in_ok-number.number;
         trips = refl;
-        added = c.in_ok-headsign.ensures.added;
-        kept = c.headsign_number.ensures.kept;
-        texts = subst (λ t. c.headsign_number.new.headsigns.texts ≡ with_headsign g.headsigns.texts (word_of kind.text t)) text c.in_ok-headsign.ensures.texts;
-        names = subst (λ t. NamesHeadsign c.headsign_number.new.headsigns.texts c.in_ok-headsign.headsign (word_of kind.text t)) text c.in_ok-headsign.ensures.named;
+        added = c.in_ok-number.ensures.added;
+        kept = c.in_ok-number.ensures.kept;
+        texts = subst (λ t. c.number.new.self.texts ≡ with_headsign g.headsigns.texts (word_of kind.text t)) text c.in_ok-number.ensures.texts;
+        names = subst (λ t. NamesHeadsign c.number.new.self.texts c.in_ok-number.number (word_of kind.text t)) text c.in_ok-number.ensures.named;
         starts = c.in_ok-resize.ensures.items ∙ (λ j. take (s.trip + 1) g.starts.items ++ replicate (s.trip + 1 - g.starts.ok.0 j) (given j));
         numbers = c.give.ensures.given;
       });
       same = c.give.ensures.stop_times ∙ inv.same;
-      last = c.in_ok-headsign.ensures.named;
     }
 
 pub returns-clause-gathered : goal.returns-clause-gathered

@@ -74,5 +74,5 @@ returns-clause-added c =
     ap (stop_times_at c.put.new.list.items c.put-2.new.list.items) c.in_ok-push.ensures.added
     ∙ one_more k.rows.items c.put.new.list.items k.notes.items c.put-2.new.list.items s.row k.order c.self.invariant earlier c.put.ensures.before c.put-2.ensures.before
     s.stop_row c.in_ok-note.note (c.in_ok-put.ensures.here no_row) (c.in_ok-put-2.ensures.here no_note)
-    ∙ ap (λ (x : Noted). stop_times_at k.rows.items k.notes.items k.order ++ record { trip = x.trip; row = s.row; has_headsign = x.has_headsign; repeats_headsign = x.repeats_headsign; times = x.times; stop_row = s.stop_row } ∷ []) c.in_ok-note.ensures
+    ∙ ap (λ (x : Noted). stop_times_at k.rows.items k.notes.items k.order ++ record { trip = x.trip; row = s.row; has_headsign = x.has_headsign; times = x.times; stop_row = s.stop_row } ∷ []) c.in_ok-note.ensures.note
     ∙ ap (λ rs. rs ++ s ∷ []) c.self.view_is
