@@ -1,6 +1,6 @@
 //! The lists of stop times while they are made.
 
-ghost use Rattle.std.specs.Prelude.{◌≡◌, [], length, not, IfOk, OnOk};
+ghost use Rattle.std.specs.Prelude.{◌≡◌, ◌++◌, ◌-◌, [], length, not, replicate, take, IfOk, OnOk};
 ghost use Rattle.gtfs_columns.specs.Problems.{Passes};
 ghost use Rattle.gtfs_rows.specs.Reading.{content_of};
 ghost use Rattle.gtfs_rules.specs.StopTimes.{AreStopTimes};
@@ -74,7 +74,7 @@ impl Gathered {
         for at in 0..self.stop_times.len() {
             let stop_time = self.stop_times.get(at);
             let number = self.headsigns.number(text(tables, &stop_time, column))?;
-            self.starts.resize(stop_time.trip as usize + 1, at)?;
+            begin(&mut self.starts, stop_time.trip as usize + 1, at)?;
             self.stop_times.give(number);
         }
         Ok(())
@@ -100,8 +100,22 @@ impl Gathered {
     }
 }
 
+// Has so many starts, of which those that come to it are this one.
+// Mostly there are as many, and no call is needed.
+#[inline(always)]
+fn begin(starts: &mut Vec<usize>, count: usize, start: usize) -> Result<(), OutOfMemory>
+    ensures { OnOk result (starts.new.items
+        ≡ take count starts.old.items ++ replicate (count - length starts.old.items) start) }
+{
+    if starts.len() != count {
+        starts.resize(count, start)?;
+    }
+    Ok(())
+}
+
 // The headsign of a stop time, which stands under this column.
 // Where it has none, its row is not looked up.
+#[inline(always)]
 fn text<'t>(tables: &'t Tables, stop_time: &StopTime, column: Option<usize>) -> &'t str
     requires { stop_time.now.has_headsign ≡ not (is_empty (field_under (record_at
         (records_in tables.now file.StopTimes) stop_time.now.row) column)) }

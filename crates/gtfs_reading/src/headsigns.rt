@@ -55,6 +55,7 @@ impl Headsigns {
     }
 
     // The number of a headsign as it stands in a field, or none where the field is empty.
+    #[inline(always)]
     pub(crate) fn number(&mut self, text: &str) -> Result<OptionalHeadsign, OutOfMemory>
         ensures named { IfOk result
             (λ n. NamesHeadsign self.new.texts n (word_of kind.text text.now)) }

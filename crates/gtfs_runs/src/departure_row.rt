@@ -51,7 +51,8 @@ pub(crate) fn leaves_place(place: &Place, rows: &[StopRow], position: usize) -> 
         (stop_row_of p (slice_index_or rows.now position d))
         && slice_index_or place.now (slice_index_or rows.now position d).stop_id.0 false) }
 {
-    is_departure_row(rows, position) && place.has(rows[position].stop_id)
+    // Few stop times are at the place, so this is asked first.
+    place.has(rows[position].stop_id) && is_departure_row(rows, position)
 }
 
 // When a vehicle leaves the first of the stop times of a trip, 0 where there is none.

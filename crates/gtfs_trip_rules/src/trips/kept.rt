@@ -162,13 +162,17 @@ fn copy<T: Copy>(alloc: Global, items: &[T]) -> Result<Vec<T>, OutOfMemory>
 
 // Puts an item at an index, at or before which nothing is kept.
 // It stands at all indices on the way there.
+#[inline(always)]
 fn put<T: Copy>(list: &mut Vec<T>, at: usize, item: T) -> Result<(), OutOfMemory>
     ensures before { KeepsBefore at list.old.items list.new.items }
     ensures here { OnOk result ((z : T) → slice_index_or list.new.items at z ≡ item) }
     ensures long { OnOk result (at < length list.new.items) }
     ensures no_others { HoldsOldOr item list.old.items list.new.items }
 {
-    list.resize(at, item)?;
+    // Mostly it stands at the end, and no call is needed.
+    if list.len() != at {
+        list.resize(at, item)?;
+    }
     list.push(item)?;
     Ok(())
 }

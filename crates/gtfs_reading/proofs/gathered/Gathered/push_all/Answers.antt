@@ -71,7 +71,7 @@ loop-at-preserved c =
         kept = c.in_ok-number.ensures.kept;
         texts = subst (λ t. c.number.new.self.texts ≡ with_headsign g.headsigns.texts (word_of kind.text t)) text c.in_ok-number.ensures.texts;
         names = subst (λ t. NamesHeadsign c.number.new.self.texts c.in_ok-number.number (word_of kind.text t)) text c.in_ok-number.ensures.named;
-        starts = c.in_ok-resize.ensures.items ∙ (λ j. take (s.trip + 1) g.starts.items ++ replicate (s.trip + 1 - g.starts.ok.0 j) (given j));
+        starts = c.in_ok-begin.ensures ∙ (λ j. take (s.trip + 1) g.starts.items ++ replicate (s.trip + 1 - length g.starts.items) (given j));
         numbers = c.give.ensures.given;
       });
       same = c.give.ensures.stop_times ∙ inv.same;
