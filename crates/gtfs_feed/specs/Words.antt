@@ -7,7 +7,7 @@
 pub use Rattle.gtfs_rows.specs.Reading.{content_of}
 -- the rows of a feed, with ids and texts as their bytes
 pub use Rattle.gtfs_rows.specs.Content.{Content}
--- the headsigns of a content's stop times, each once, in the order in which these first name them
+-- the headsigns of the rows of stop_times.txt, each once, in the order in which the rows of the file first name them
 pub use Rattle.gtfs_reading.specs.FirstNamed.{headsigns_in}
 -- ---- `FeedDraft`: a feed whose stop times are not in their list yet
 

@@ -55,7 +55,7 @@ impl FeedDraft {
         ensures content { IfOk result
             (λ draft. content_of_parts draft ≡ content_of passed.entry) }
         ensures headsigns { IfOk result
-            (λ draft. draft.headsigns ≡ headsigns_in (content_of passed.entry)) }
+            (λ draft. draft.headsigns ≡ headsigns_in passed.entry) }
     {
         let tables = passed.tables();
         let (ids, stop_times) = passed.into_parts();

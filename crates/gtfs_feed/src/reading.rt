@@ -19,11 +19,10 @@ impl Feed {
     /// The feed of a dataset that passed the validator: its content with numbers in place of ids
     /// (GTFS Schedule Reference, "Dataset Files").
     ///
-    /// Headsigns of stop times have their numbers in the order in which the stop times first
-    /// name them, trip after trip and in each trip by sequence. Stop times were read when
-    /// the dataset was checked, and are not read again. The dataset is lent and not changed,
-    /// and the feed lends nothing of it. Headsigns are hashed by the random state, on which
-    /// no answer of the feed depends.
+    /// Headsigns of stop times have their numbers in the order in which the rows of the file first
+    /// name them. Stop times were read when the dataset was checked, and are not read again. The
+    /// dataset is lent and not changed, and the feed lends nothing of it. Headsigns are hashed by
+    /// the random state, on which no answer of the feed depends.
     ///
     /// # Errors
     /// `OutOfMemory` where memory is refused,
@@ -32,7 +31,7 @@ impl Feed {
         ensures content { IfOk result
             (λ feed. content_of_parts feed ≡ content_of_dataset passed.now) }
         ensures headsigns { IfOk result
-            (λ feed. feed.headsigns ≡ headsigns_in (content_of_dataset passed.now)) }
+            (λ feed. feed.headsigns ≡ headsigns_in passed.now) }
     {
         let rows = FeedRows::new(alloc, passed.tables(), &passed.ids().network)?;
         let stop_times = StopTimes::new(alloc, random, passed)?;

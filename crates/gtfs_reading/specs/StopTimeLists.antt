@@ -36,8 +36,8 @@ pub record AreStopTimesOf (d : Dataset) (lists : StopTimes) : Type 0 where
       ≡ map (λ t. t.stop_rows) (content_of d).trips
   -- each number is that of a stop, or of a headsign
   pub numbers : list_all (has_numbers_below (length (content_of d).stops) (length lists.headsigns)) lists.stop_times.rows ≡ true
-  -- the headsigns have their numbers in the order in which the rows first name them: so no headsign is there twice, and
+  -- the headsigns have their numbers in the order in which the rows of the file first name them: so no headsign is there twice, and
   -- each is that of a row
-  pub first_named : lists.headsigns ≡ headsigns_in (content_of d)
+  pub first_named : lists.headsigns ≡ headsigns_in d
   pub distinct : AreDistinct lists.headsigns
   pub used : (k : ℕ) → k < length lists.headsigns → list_any (has_headsign k) lists.stop_times.rows ≡ true

@@ -15,7 +15,7 @@ pub struct StopTimes {
     /// The stop times of all trips, also of those that have none.
     pub stop_times: StopTimesByTrip,
     /// The headsigns that stop times name by their numbers, each once, in the order in which the
-    /// stop times first name them, trip after trip. A control character is a space.
+    /// rows of the file first name them. A control character is a space.
     pub headsigns: List<Text>,
 }
 

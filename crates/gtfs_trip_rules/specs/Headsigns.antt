@@ -1,5 +1,5 @@
 -- Stop times with the numbers of their headsigns, and the numbers of their rows.
-use Rattle.std.specs.Prelude.{ℕ, ◌-◌, List, [], Option, ◌∷◌, map, slice_index_or}
+use Rattle.std.specs.Prelude.{ℕ, ◌-◌, List, Option, None, map, slice_index_or}
 use Rattle.std.specs.List.{range_with_len}
 use Rattle.gtfs_stop_times.specs.declared.by_trip.RowRange.{RowRange}
 use Rattle.gtfs_stop_times.specs.declared.stop_row.StopRow.{StopRow}
@@ -14,11 +14,9 @@ with_headsign row headsign = record row { stop_headsign = headsign }
 abbrev pub with_headsign_at : StopTime → Option ℕ → StopRow
 with_headsign_at s headsign = with_headsign s.stop_row headsign
 
--- the rows of stop times, each with the headsign whose number stands at its index
-unfoldable pub rows_with : List StopTime → List (Option ℕ) → List StopRow
-rows_with [] headsigns = []
-rows_with (s ∷ ss) [] = []
-rows_with (s ∷ ss) (headsign ∷ headsigns) = with_headsign_at s headsign ∷ rows_with ss headsigns
+-- the rows of stop times, each with the headsign whose number stands at that of the row
+abbrev pub rows_with : List StopTime → List (Option ℕ) → List StopRow
+rows_with ss headsigns = map (λ s. with_headsign_at s (slice_index_or headsigns s.row None)) ss
 
 -- ---- by the numbers of rows
 

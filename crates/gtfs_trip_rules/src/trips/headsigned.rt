@@ -1,7 +1,7 @@
-ghost use Rattle.std.specs.Prelude.{◌≡◌, ◌∷◌, ◌++◌, ◌<◌, [], length, nat_eq, slice_get, slice_index_or, slice_set, None, Some};
-ghost use Rattle.std.specs.List.{IsDistinct};
-ghost use Rattle.gtfs_trip_rules.specs.Headsigns.{rows_with, with_headsign};
-ghost use Rattle.gtfs_trip_rules.specs.KeptLists.{no_row, stop_times_at, AreListed};
+ghost use Rattle.std.specs.Prelude.{◌≡◌, ◌<◌, length, slice_get, slice_set, None, Some, true};
+ghost use Rattle.std.specs.List.{All};
+ghost use Rattle.gtfs_trip_rules.specs.Headsigns.{rows_with};
+ghost use Rattle.gtfs_trip_rules.specs.KeptLists.{stop_times_at, AreListed};
 
 use crate::trips::headsigned_rows::HeadsignedRows;
 use crate::trips::row::StopTime;
@@ -10,26 +10,24 @@ use crate::trips::row_numbers::RowNumbers;
 use gtfs_stop_times::{OptionalHeadsign, StopRow};
 use std::marker::Model;
 
-/// Stop times that are given the numbers of their headsigns, one after the other. The numbers are
-/// written into the rows where they stand, and need no list of their own.
+/// Stop times that are given the numbers of their headsigns, by the numbers of their rows. The
+/// numbers are written into the rows where they stand, and need no list of their own.
 #[derive(Drop)]
 pub struct HeadsignedStopTimes {
     // Rows, notes and order are those of the stop times as they were kept.
     rows: Vec<StopRow>,
     notes: Vec<RowNote>,
     order: RowNumbers,
-    // How many have not been given theirs.
-    left: usize,
 }
 
 impl Model for HeadsignedStopTimes {
-    ghost use Rattle.gtfs_trip_rules.specs.Headsigned.{headsigned_at, AreGiven, Headsigned};
+    ghost use Rattle.gtfs_trip_rules.specs.Headsigned.{headsigned_at, AreInRows, Headsigned};
 
     ghost Value = { Headsigned };
 
-    ghost view = { λ h. headsigned_at h.rows.items h.notes.items h.order h.left };
+    ghost view = { λ h. headsigned_at h.rows.items h.notes.items h.order };
 
-    ghost invariant = { λ h. AreGiven h.rows.items h.notes.items h.order h.left };
+    ghost invariant = { λ h. AreInRows h.rows.items h.notes.items h.order };
 }
 
 impl HeadsignedStopTimes {
@@ -39,18 +37,11 @@ impl HeadsignedStopTimes {
         notes: Vec<RowNote>,
         order: RowNumbers,
     ) -> HeadsignedStopTimes
-        requires listed { AreListed rows.items notes.items order }
-        requires once { IsDistinct nat_eq order }
+        requires { AreListed rows.items notes.items order }
         ensures stop_times { result.stop_times ≡ stop_times_at rows.items notes.items order }
-        ensures none_given { result.headsigns ≡ [] }
+        ensures none_given { All (λ h. h ≡ None) result.headsigns }
     {
-        let left = order.len();
-        HeadsignedStopTimes {
-            rows,
-            notes,
-            order,
-            left,
-        }
+        HeadsignedStopTimes { rows, notes, order }
     }
 
     /// How many stop times there are.
@@ -80,44 +71,38 @@ impl HeadsignedStopTimes {
         }
     }
 
-    /// Gives the next stop time the number of its headsign, or none. The first call is for the
-    /// first stop time.
+    /// Whether the stop time of the row with this number has a headsign. Where there is no such
+    /// stop time, it may say either.
     #[inline(always)]
-    pub fn give(&mut self, headsign: OptionalHeadsign)
-        requires { length self.old.headsigns < length self.old.stop_times }
-        ensures stop_times { self.new.stop_times ≡ self.old.stop_times }
-        ensures given { self.new.headsigns ≡ self.old.headsigns ++ headsign ∷ [] }
+    pub fn has_headsign(&self, row: usize) -> bool
+        ensures said { All (λ s. s.row ≡ row → s.has_headsign ≡ result) self.now.stop_times }
+        ensures within { result ≡ true → row < length self.now.headsigns }
     {
-        let row = self.order.get(self.order.len() - self.left);
-        name(&mut self.rows, row, headsign);
-        self.left -= 1;
+        if row >= self.rows.len() || row >= self.notes.len() {
+            return false;
+        }
+        self.notes[row].has_headsign()
     }
 
-    /// Their rows with their headsigns, each of which was given. What else is kept of them is let go.
+    /// Gives the stop time of the row with this number the number of its headsign, or none.
+    #[inline(always)]
+    pub fn give(&mut self, row: usize, headsign: OptionalHeadsign)
+        requires { row < length self.old.headsigns }
+        ensures stop_times { self.new.stop_times ≡ self.old.stop_times }
+        ensures given { self.new.headsigns ≡ slice_set self.old.headsigns row headsign }
+    {
+        self.rows[row].stop_headsign = headsign;
+    }
+
+    /// Their rows with their headsigns. What else is kept of them is let go.
     pub fn into_rows(self) -> HeadsignedRows
-        requires { length self.headsigns ≡ length self.stop_times }
         ensures { result ≡ rows_with self.stop_times self.headsigns }
     {
         let HeadsignedStopTimes {
             rows,
             notes: _,
             order,
-            left: _,
         } = self;
         HeadsignedRows::of(rows, order)
-    }
-}
-
-// Writes a headsign, or none, into a row without one.
-#[inline(always)]
-fn name(rows: &mut Vec<StopRow>, row: u32, headsign: OptionalHeadsign)
-    requires within { row < length rows.old.items }
-    requires unnamed { (slice_index_or rows.old.items row no_row).stop_headsign ≡ None }
-    ensures { rows.new.items ≡ slice_set rows.old.items row
-        (with_headsign (slice_index_or rows.old.items row no_row) headsign) }
-{
-    // Most rows get none, and need not be touched.
-    if headsign.get().is_some() {
-        rows[row as usize].stop_headsign = headsign;
     }
 }

@@ -1,5 +1,5 @@
-ghost use Rattle.std.specs.Prelude.{◌≡◌, ◌<◌, ◌∷◌, ◌++◌, [], filter, length, map, nat_eq, slice_get, slice_index_or, IfOk, IsPermutation, OnErr, OnOk, Some};
-ghost use Rattle.std.specs.List.{IsDistinct};
+ghost use Rattle.std.specs.Prelude.{◌≡◌, ◌<◌, ◌∷◌, ◌++◌, [], filter, length, slice_get, slice_index_or, IfOk, IsPermutation, None, OnErr, OnOk, Some};
+ghost use Rattle.std.specs.List.{All};
 ghost use Rattle.std.specs.List.Sorted.{IsSorted};
 ghost use Rattle.gtfs_trip_rules.specs.KeptLists.{no_note, HasNoHeadsign, HoldsOldOr, KeepsBefore};
 ghost use Rattle.gtfs_trip_rules.specs.KeptStretches.{AreRising};
@@ -98,9 +98,8 @@ impl KeptStopTimes {
 
     /// The same, to be given their headsigns.
     pub fn into_headsigned(self) -> HeadsignedStopTimes
-        requires once { IsDistinct nat_eq (map (λ s. s.row) self) }
         ensures stop_times { result.stop_times ≡ self }
-        ensures none_given { result.headsigns ≡ [] }
+        ensures none_given { All (λ h. h ≡ None) result.headsigns }
     {
         let KeptStopTimes { rows, notes, order } = self;
         HeadsignedStopTimes::of(rows, notes, order)
@@ -111,9 +110,8 @@ impl KeptStopTimes {
     /// # Errors
     /// `OutOfMemory` where memory is refused.
     pub fn to_headsigned(&self, alloc: Global) -> Result<HeadsignedStopTimes, OutOfMemory>
-        requires once { IsDistinct nat_eq (map (λ s. s.row) self.now) }
         ensures stop_times { IfOk result (λ copy. copy.stop_times ≡ self.now) }
-        ensures none_given { IfOk result (λ copy. copy.headsigns ≡ []) }
+        ensures none_given { IfOk result (λ copy. All (λ h. h ≡ None) copy.headsigns) }
     {
         let rows = copy(alloc, &self.rows)?;
         let notes = copy(alloc, &self.notes)?;

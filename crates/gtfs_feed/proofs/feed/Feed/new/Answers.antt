@@ -40,5 +40,5 @@ returns-clause-content c =
 pub returns-clause-headsigns : goal.returns-clause-headsigns
 returns-clause-headsigns c =
     let p = c.joined-parts.result in
-    let is : p.headsigns ≡ headsigns_in (content_of_dataset c.args.passed.now) = c.joined-parts.ensures.headsigns ∙ c.in_ok-stop_times.ensures.first_named in
-    IfOk-weaker c.assemble.result (λ feed. feed ≡ p) (λ feed. feed.headsigns ≡ headsigns_in (content_of_dataset c.args.passed.now)) (λ feed same. ap (λ q. q.headsigns) same ∙ is) c.assemble.ensures.value
+    let is : p.headsigns ≡ headsigns_in c.args.passed.now = c.joined-parts.ensures.headsigns ∙ c.in_ok-stop_times.ensures.first_named in
+    IfOk-weaker c.assemble.result (λ feed. feed ≡ p) (λ feed. feed.headsigns ≡ headsigns_in c.args.passed.now) (λ feed same. ap (λ q. q.headsigns) same ∙ is) c.assemble.ensures.value

@@ -1,16 +1,12 @@
 use Rattle.std.proofs.Common.{◌∙◌, subst, sym}
-use Rattle.gtfs_reading.specs.Gathering.{IsEmptyFor}
 use Rattle.gtfs_reading.proofs.ContentIds.{trips_counted}
 use Rattle.gtfs_rules.specs.StopTimes.{AreStopTimes}
-use Rattle.gtfs_reading.proofs.Gathers.{cut-all, each-row-once, gathered-all}
+use Rattle.gtfs_reading.proofs.Gathers.{cut-all, gathered-all}
 use Rattle.gtfs_reading.proofs.draft.StopTimesDraft.new.Goals as goal
 
-pub into_headsigned-stop_times-requires : goal.into_headsigned-stop_times-requires
-into_headsigned-stop_times-requires c = record { once = each-row-once c.args.tables.now c.args.stop_times c.requires.stop_times }
-
-pub push_all-requires-clause-empty : goal.push_all-requires-clause-empty
-push_all-requires-clause-empty c =
-    subst (λ n. IsEmptyFor n c.in_ok-gathered.gathered) (c.len.ensures.value ∙ trips_counted c.args.tables.now c.requires.passes c.args.ids.now c.requires.ids) c.in_ok-gathered.ensures.empty
+pub push_all-requires-clause-trips : goal.push_all-requires-clause-trips
+push_all-requires-clause-trips c =
+    c.in_ok-gathered.ensures.trips ∙ c.len.ensures.value ∙ trips_counted c.args.tables.now c.requires.passes c.args.ids.now c.requires.ids
 
 pub invariant_of-result : goal.invariant_of-result
 invariant_of-result c =

@@ -3,20 +3,16 @@ use Rattle.gtfs_columns.specs.Problems.{Passes}
 use Rattle.gtfs_rules.specs.StopTimes.{AreStopTimes}
 use Rattle.gtfs_reading.specs.Gathering.{AreGathered}
 use Rattle.gtfs_columns.specs.steps.FeedIds.{AreIdsOf}
-use Rattle.gtfs_reading.specs.Gathering.{IsEmptyFor}
 use Rattle.gtfs_reading.proofs.ContentIds.{trips_counted}
 use Rattle.gtfs_reading.specs.StopTimeLists.{AreStopTimesOf}
-use Rattle.gtfs_reading.proofs.Gathers.{cut-all, each-row-once, gathered-all}
+use Rattle.gtfs_reading.proofs.Gathers.{cut-all, gathered-all}
 use Rattle.gtfs_reading.proofs.stop_times.StopTimes.new.Goals as goal
 
-pub to_headsigned-requires : goal.to_headsigned-requires
-to_headsigned-requires c = record { once = each-row-once c.args.passed.now c.stop_times.result.now c.stop_times.ensures }
-
-pub push_all-requires-clause-empty : goal.push_all-requires-clause-empty
-push_all-requires-clause-empty c =
+pub push_all-requires-clause-trips : goal.push_all-requires-clause-trips
+push_all-requires-clause-trips c =
     let d = c.tables.result.now in
     let ids = subst (λ e. AreIdsOf e c.ids.result.now) (sym c.tables.ensures.value) c.ids.ensures in
-    subst (λ n. IsEmptyFor n c.in_ok-gathered.gathered) (c.len-trips.ensures.value ∙ trips_counted d c.tables.ensures.passes c.ids.result.now.network ids.network) c.in_ok-gathered.ensures.empty
+    c.in_ok-gathered.ensures.trips ∙ c.len-trips.ensures.value ∙ trips_counted d c.tables.ensures.passes c.ids.result.now.network ids.network
 
 pub into_by_trip-requires-clause-rising : goal.into_by_trip-requires-clause-rising
 into_by_trip-requires-clause-rising c =

@@ -1,11 +1,11 @@
-use Rattle.std.proofs.Common.{◌∙◌}
-use Rattle.gtfs_trip_rules.proofs.HeadsignedFacts.{whole}
+use Rattle.std.proofs.Common.{◌∙◌, ap}
+use Rattle.gtfs_trip_rules.specs.Headsigned.{Headsigned}
+use Rattle.gtfs_trip_rules.specs.Headsigns.{rows_with}
+use Rattle.gtfs_trip_rules.proofs.HeadsignedFacts.{all-rows}
 use Rattle.gtfs_trip_rules.proofs.trips.headsigned.HeadsignedStopTimes.into_rows.Goals as goal
-
-pub of-requires : goal.of-requires
-of-requires c = c.self.invariant.in_rows
 
 pub returns : goal.returns
 returns c =
     let k = c.self.inside in
-    c.of.ensures ∙ whole k.rows.items k.notes.items k.order k.left c.self.invariant c.args.self c.self.view_is c.requires
+    c.of.ensures ∙ all-rows k.rows.items k.notes.items k.order c.self.invariant.in_rows
+    ∙ ap (λ (g : Headsigned). rows_with g.stop_times g.headsigns) c.self.view_is
