@@ -1,5 +1,5 @@
 -- The stop times of all trips: as they are seen, and where they stand.
-use Rattle.std.specs.Prelude.{◌≡◌, ◌≤◌, ◌-◌, ℕ, List, drop, flat_map, length, map, take, ⊤}
+use Rattle.std.specs.Prelude.{◌≡◌, ◌≤◌, ◌-◌, ℕ, Bool, false, List, drop, flat_map, length, map, slice_index_or, take, ⊤}
 use Rattle.std.specs.List.{All}
 use Rattle.gtfs_table.specs.Parts.{starts_of}
 use Rattle.gtfs_stop_times.specs.declared.by_trip.Places.TheVariants as places
@@ -16,9 +16,17 @@ pub record StopTimesOfTrips : Type 0 where
 abbrev pub in_turn : List (List StopRow) → StopTimesOfTrips
 in_turn trips = record { rows = flat_map (λ rs. rs) trips; starts = starts_of 0 trips }
 
+-- the items of a range
+abbrev pub items_in : {X : Type 0} → List X → RowRange → List X
+items_in xs s = take (s.end - s.start) (drop s.start xs)
+
 -- the rows of a range
 abbrev pub rows_in : List StopRow → RowRange → List StopRow
-rows_in rows s = take (s.end - s.start) (drop s.start rows)
+rows_in rows s = items_in rows s
+
+-- the stop time is at one of the stops at whose number there is true
+abbrev pub is_at : List Bool → StopRow → Bool
+is_at stops row = slice_index_or stops row.stop_id.0 false
 
 -- each range ends where it begins or later, and in a list of this length
 abbrev pub AreWithin : ℕ → List RowRange → Type 0

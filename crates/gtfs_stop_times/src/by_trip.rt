@@ -1,8 +1,10 @@
 ghost use Rattle.std.specs.Prelude.{◌≡◌, ◌<◌, ◌≤◌, IfOk, Some, length, map, slice_get};
+ghost use Rattle.std.specs.List.{list_any};
 ghost use Rattle.csv.specs.Records.{Rising};
-ghost use Rattle.gtfs_stop_times.specs.ByTrip.{AreWithin, in_turn, rows_in};
+ghost use Rattle.gtfs_stop_times.specs.ByTrip.{AreWithin, in_turn, is_at, rows_in};
 ghost use Rattle.gtfs_table.specs.Parts.{parts};
 
+use crate::marks::{marked, marked_in_ranges, marked_in_turn};
 use crate::stop_row::StopRow;
 use crate::stretches::stretch;
 use gtfs_field::{List, OutOfMemory};
@@ -95,6 +97,26 @@ impl StopTimesByTrip {
         match &self.places {
             Places::InTurn(starts) => stretch(&self.rows, starts, trip),
             Places::Anywhere(ranges, _) => rows_in(&self.rows, ranges[trip]),
+        }
+    }
+
+    /// Of each trip, by its number, whether it has a stop time at one of these stops: those at whose
+    /// number there is `true`. The starts rise, from 0 on, and none lies past the last stop time.
+    ///
+    /// It goes through the stop times as they stand in memory, which takes less time than from trip
+    /// to trip.
+    ///
+    /// # Errors
+    /// `OutOfMemory` where memory is refused.
+    pub fn trips_at(&self, alloc: Global, stops: &[bool]) -> Result<Vec<bool>, OutOfMemory>
+        requires { Rising 0 self.now.starts (length self.now.rows) }
+        ensures { IfOk result (λ trips. trips.items
+            ≡ map (list_any (is_at stops.now)) (parts self.now.starts self.now.rows)) }
+    {
+        let marks = marked(alloc, &self.rows, stops)?;
+        match &self.places {
+            Places::InTurn(starts) => marked_in_turn(alloc, &marks, starts),
+            Places::Anywhere(ranges, _) => marked_in_ranges(alloc, &marks, ranges),
         }
     }
 

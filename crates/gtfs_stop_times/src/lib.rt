@@ -19,6 +19,7 @@
 
 mod by_trip;
 mod choices;
+mod marks;
 mod numbers;
 mod optional;
 mod room;
