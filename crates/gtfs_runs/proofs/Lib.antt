@@ -15,6 +15,7 @@ mod RowsSoFar
 pub mod RunStarts
 mod LaneTallies
 mod TripFinds
+mod TripsElsewhere
 pub mod TripTimes
 mod Ranks
 mod Numbers

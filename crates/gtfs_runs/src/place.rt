@@ -40,6 +40,13 @@ impl Place {
         Ok(Place { members })
     }
 
+    // Of each stop of the feed, by its number, whether it has it.
+    pub(crate) fn members(&self) -> &[bool]
+        ensures { result.now ≡ self.now }
+    {
+        &self.members
+    }
+
     // Whether it has a stop of the feed.
     pub(crate) fn has(&self, stop: StopNo) -> bool
         requires { stop.0 < length self.now }

@@ -68,10 +68,10 @@ impl StopLanes {
     /// The lanes of the place of a stop, whose number is below [`Feed::stop_count`], and a count of
     /// steps, which begins at 0: nothing else makes one.
     ///
-    /// It looks at each stop time of the feed once, and sorts the trips without frequencies that
-    /// pass the place by service and stops, and then their events there by numbers. A row of
-    /// `frequencies.txt` takes the same memory however many runs it has. A trip with times to fill
-    /// is copied for as long as it is looked at.
+    /// It goes once over the stops of all stop times, as they stand in memory, and then looks at
+    /// the trips that pass the place. It sorts those without frequencies by service and stops, and
+    /// then their events there by numbers. A row of `frequencies.txt` takes the same memory however
+    /// many runs it has. A trip with times to fill is copied for as long as it is looked at.
     ///
     /// GTFS Schedule Reference, `stop_times.txt`, `frequencies.txt`,
     /// and `parent_station` of `stops.txt`.

@@ -52,18 +52,23 @@ impl Found {
             (map (stopping_of feed.now) found.listed.items) (map period_value found.periods.items)) }
         ensures services { IfOk result (λ found. AreServed feed.now found.listed.items) }
     {
+        let parts = feed.parts();
+        let there = parts.stop_times.trips_at(alloc, place.members())?;
         let mut listed = Vec::new(alloc);
         let mut periods = Vec::new(alloc);
         for number in 0..feed.trip_count() {
-            add_trip(
-                alloc,
-                feed,
-                place,
-                TripNo(number),
-                times,
-                &mut listed,
-                &mut periods,
-            )?;
+            // Few trips come by, and nothing else of the others is looked at.
+            if there[number] {
+                add_trip(
+                    alloc,
+                    feed,
+                    place,
+                    TripNo(number),
+                    times,
+                    &mut listed,
+                    &mut periods,
+                )?;
+            }
         }
         Ok(Found { listed, periods })
     }
