@@ -16,7 +16,6 @@ pub mod ReportingFacts
 pub mod RowFacts
 pub mod RuleFacts
 pub mod SiteFacts
-pub mod SiteSteps
 mod SlotFacts
 pub mod StepFacts
 pub mod StopTypeFacts

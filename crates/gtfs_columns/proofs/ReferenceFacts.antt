@@ -10,15 +10,13 @@ use Rattle.gtfs_columns.specs.steps.Ids.{first_rows, FirstRows}
 use Rattle.gtfs_columns.specs.KeyRules.{is_known, unknown_reference}
 use Rattle.gtfs_columns.specs.References.{Reference, references}
 use Rattle.gtfs_columns.specs.steps.ReferencePicks.{route_names, service_names, stop_names, trip_names}
-use Rattle.gtfs_columns.specs.steps.Picks.{is_kept}
-use Rattle.gtfs_columns.specs.Problems.{FileName, kept, other}
 use Rattle.gtfs_columns.specs.Reads.{is_id}
 use Rattle.gtfs_columns.specs.Rows.{is_file, row_with, text_in, value_in}
 use Rattle.gtfs_table.specs.Rows.{is_row, records_in}
 use Rattle.gtfs_columns.specs.steps.UnknownIds.{is_unknown}
 use Rattle.gtfs_columns.proofs.BoolFacts.{and_parts}
 use Rattle.gtfs_columns.proofs.IdFacts.{first_row_is}
-use Rattle.gtfs_columns.proofs.SiteSteps.{is_site}
+use Rattle.gtfs_columns.proofs.SiteFacts.{is_site}
 use Rattle.gtfs_columns.proofs.EachFacts.{any_follows}
 use Rattle.gtfs_columns.proofs.NamedFacts.{text_turned}
 
@@ -71,8 +69,3 @@ names_alike x name elsewhere = refl
 pub reported_at_others : (d : Dataset) (x : File) (n : ℕ) (name : List ℕ) → not (is_file file.StopTimes x) ≡ true → unknown_reference d x n name ≡ true
     → is_site other_names x name ≡ true
 reported_at_others d x n name elsewhere e = sym (names_alike x name elsewhere) ∙ reported_at_names d x n name e
-
-pub others_apart : (f : FileName) → list_any (λ (site : File × List ℕ). is_kept site.0 f) other_names ≡ true → not (is_kept file.StopTimes f) ≡ true
-others_apart (kept file.StopTimes) e = cc e
-others_apart (kept x) e = refl
-others_apart (other t) e = cc e

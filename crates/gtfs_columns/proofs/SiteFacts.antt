@@ -1,7 +1,8 @@
 -- A problem is known by its code, its file, its column and its row.
-use Rattle.std.proofs.Common.{◌≡◌, ℕ, List, true, refl, sym, ap, ◌∙◌}
+use Rattle.std.proofs.Common.{◌≡◌, ℕ, List, Bool, true, refl, sym, ap, ◌∙◌}
 use Rattle.std.specs.Prelude.{◌&&◌, ◌==◌, bytes_eq}
 use Rattle.std.specs.Cmp.{Equal-is, tied_itself}
+use Rattle.std.specs.List.{list_any}
 use Rattle.std.proofs.lemmas.Bool.{eqb-true, and_from as and_both}
 use Rattle.std.proofs.lemmas.Slice.Eq.{bytes_eq-Decides}
 use Rattle.gtfs_field.proofs.NumberFacts.{number_itself}
@@ -63,3 +64,7 @@ same_at_column c x name n p = same_test (is_same (problem_at c x name n) p) (at_
     (λ e. let parts = and_parts (at_column c x name p) (p.row == n) e in
     ap (is_same (problem_at c x name n)) (at_column_is c x name p parts.0 ∙ ap (problem_at c x name) (eqb-true p.row n parts.1))
     ∙ same_itself (problem_at c x name n))
+
+-- a file's column is one of these
+abbrev pub is_site : List (File × List ℕ) → File → List ℕ → Bool
+is_site sites x name = list_any (λ site. is_file site.0 x && bytes_eq name site.1) sites

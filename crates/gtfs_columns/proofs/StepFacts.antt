@@ -1,4 +1,4 @@
--- Steps one after the other: what is reported at columns, in files and of codes.
+-- What is reported at columns, and of codes.
 use Rattle.std.proofs.Common.{◌≡◌, ℕ, List, [], ◌∷◌, true, false, Bool, sym, ap, ◌∙◌, map, codes, inl, inr}
 use Prim.Native.String.{String as Literal}
 use Rattle.std.specs.Prelude.{◌&&◌, ◌||◌, ◌==◌, bytes_eq}
@@ -19,7 +19,7 @@ pub use Rattle.std.proofs.Math.Bool.{or-false as alone}
 use Rattle.gtfs_field.proofs.NumberFacts.{number_itself}
 use Rattle.gtfs_columns.proofs.BoolFacts.{same_test, and_parts, or_left, or_right}
 use Rattle.gtfs_columns.proofs.SiteFacts.{code_is, file_is}
-use Rattle.gtfs_columns.proofs.ReportingFacts.{reports_alike, reports_none, reports_then}
+use Rattle.gtfs_columns.proofs.ReportingFacts.{reports_alike}
 
 -- ---- a test that takes in more, and no further problem
 
@@ -31,47 +31,8 @@ reports_wider d narrow wide xs ys inside no_more = reports_alike d narrow wide x
     (λ e. let parts = and_parts (narrow p) (is_problem d p) e in and_both (wide p) (is_problem d p) (inside p parts.0) parts.1)
     (λ e. let parts = and_parts (wide p) (is_problem d p) e in and_both (narrow p) (is_problem d p) (no_more p parts.0 parts.1) parts.1))
 
--- ---- codes
-
--- of one code, and then of others
-pub reports_codes : (d : Dataset) (c : Code) (cs : List Code) (xs ys zs : List Problem)
-    → Reports d (of_codes (c ∷ [])) xs ys → Reports d (of_codes cs) ys zs → Reports d (of_codes (c ∷ cs)) xs zs
-reports_codes d c cs xs ys zs first rest =
-    reports_alike d (λ p. of_codes (c ∷ []) p || of_codes cs p) (of_codes (c ∷ cs)) xs zs
-    (λ p. ap (λ b. (b || of_codes cs p) && is_problem d p) (alone (is_code p.code c)))
-    (reports_then d (of_codes (c ∷ [])) (of_codes cs) xs ys zs first rest)
-
--- ---- files
-
 pub is_file_turned : (x y : File) → is_file x y ≡ true → is_file y x ≡ true
 is_file_turned x y e = ap (λ n. n == file_rank x) (sym (same_number (file_rank x) (file_rank y) e)) ∙ number_itself (file_rank x)
-
--- the code is reported in these files alone
-abbrev pub InFiles : Dataset → Code → List File → Type 0
-InFiles d c files = (x : File) (n : ℕ) (name : List ℕ) → holds_in c d x n name ≡ true → list_any (is_file x) files ≡ true
-
-abbrev pub in_files : Code → List File → Problem → Bool
-in_files c files p = list_any (λ x. in_file c x p) files
-
-pub no_files : (d : Dataset) (c : Code) (xs : List Problem) → Reports d (in_files c []) xs xs
-no_files d c = reports_none d
-
-pub file_then : (d : Dataset) (c : Code) (x : File) (files : List File) (xs ys zs : List Problem)
-    → Reports d (in_file c x) xs ys → Reports d (in_files c files) ys zs → Reports d (in_files c (x ∷ files)) xs zs
-file_then d c x files = reports_then d (in_file c x) (in_files c files)
-
-module _ (d : Dataset) (c : Code) (files : List File) (of_files : is_code c code.W03 ≡ false) (only : InFiles d c files) where
-  in_one : (f : FileName) (k : Code) (n : ℕ) (name : List ℕ) → is_code k c ≡ true → holds k d f n name ≡ true → list_any (λ x. is_code k c && is_kept x f) files ≡ true
-  in_one (kept x) k n name same e = any_follows (is_file x) (λ y. is_code k c && is_file y x) files
-      (λ y here. and_both (is_code k c) (is_file y x) same (is_file_turned x y here))
-      (only x n name (ap (λ j. holds_in j d x n name) (sym (code_is k c same)) ∙ e))
-  in_one (other t) k n name same e =
-      cc (sym of_files ∙ ap (λ j. is_code j code.W03) (sym (code_is k c same)) ∙ (and_parts (is_code k code.W03) _ e).0)
-
-  pub reports_files : (xs ys : List Problem) → Reports d (in_files c files) xs ys → Reports d (of_codes (c ∷ [])) xs ys
-  reports_files xs ys = reports_wider d (in_files c files) (of_codes (c ∷ [])) xs ys
-      (λ p e. or_left (is_code p.code c) false (any_gives (λ x. in_file c x p) (is_code p.code c) files (λ x here. (and_parts (is_code p.code c) (is_kept x p.file) here).0) e))
-      (λ p picked e. in_one p.file p.code p.row p.column (sym (alone (is_code p.code c)) ∙ picked) e)
 
 -- ---- columns
 
@@ -81,13 +42,6 @@ AtColumns d c x columns = (n : ℕ) (name : List ℕ) → holds_in c d x n name 
 
 abbrev pub at_columns : Code → File → List Literal → Problem → Bool
 at_columns c x columns p = list_any (λ column. at_column c x (codes column) p) columns
-
-pub no_columns : (d : Dataset) (c : Code) (x : File) (xs : List Problem) → Reports d (at_columns c x []) xs xs
-no_columns d c x = reports_none d
-
-pub column_then : (d : Dataset) (c : Code) (x : File) (column : Literal) (columns : List Literal) (xs ys zs : List Problem)
-    → Reports d (at_column c x (codes column)) xs ys → Reports d (at_columns c x columns) ys zs → Reports d (at_columns c x (column ∷ columns)) xs zs
-column_then d c x column columns = reports_then d (at_column c x (codes column)) (at_columns c x columns)
 
 module _ (d : Dataset) (c : Code) (x : File) (columns : List Literal) (only : AtColumns d c x columns) where
   at_one : (p : Problem) → in_file c x p ≡ true → is_problem d p ≡ true → at_columns c x columns p ≡ true
@@ -105,11 +59,6 @@ module _ (d : Dataset) (c : Code) (x : File) (columns : List Literal) (only : At
       (any_gives (λ column. at_column c x (codes column) p) (in_file c x p) columns (λ column here. (and_parts (in_file c x p) (bytes_eq p.column (codes column)) here).0) parts.0) parts.1)
       (λ e. let parts = and_parts (in_file c x p) (is_problem d p) e in
       and_both (at_columns c x columns p) (is_problem d p) (at_one p parts.0 parts.1) parts.1)
-
-  pub reports_columns : (xs ys : List Problem) → Reports d (at_columns c x columns) xs ys → Reports d (in_file c x) xs ys
-  reports_columns xs ys = reports_wider d (at_columns c x columns) (in_file c x) xs ys
-      (λ p e. any_gives (λ column. at_column c x (codes column) p) (in_file c x p) columns (λ column here. (and_parts (in_file c x p) (bytes_eq p.column (codes column)) here).0) e)
-      at_one
 
 -- ---- rules reported at columns
 
@@ -131,12 +80,6 @@ reported_there (t ∷ rules) d x n name e = elim (cases_Bool (reported_at t.0 t.
   | inr there ↦ or_right (is_file x t.0 && bytes_eq name (codes t.1)) _ (reported_there rules d x n name (rw there at e))
 ]
 
--- its file is that of one of the rules
-pub reported_files : (rules : List Reported) (d : Dataset) (x : File) (n : ℕ) (name : List ℕ) → condition_of rules d x n name ≡ true
-    → list_any (λ t. is_file x t.0) rules ≡ true
-reported_files rules d x n name e = any_follows (λ t. is_file x t.0 && bytes_eq name (codes t.1)) (λ t. is_file x t.0) rules
-    (λ t here. (and_parts (is_file x t.0) (bytes_eq name (codes t.1)) here).0) (reported_there rules d x n name e)
-
 -- of all rules the one that is reported at this column decides
 pub reported_as : (row breaks rule : Bool) → breaks ≡ rule → ((row && rule) || false) ≡ (row && breaks)
 reported_as row breaks rule same = alone (row && rule) ∙ ap (λ b. row && b) (sym same)
@@ -151,9 +94,15 @@ module _ (d : Dataset) (c : Code) (x : File) (column : Literal) (rule : Rule)
       let reported = and_parts (site && is_row (records_in d x) n) (rule d n) (sym (is_rule y n name) ∙ e) in
       and_parts (is_file y x) (bytes_eq name (codes column)) (and_parts site (is_row (records_in d x) n) reported.0).0
 
+  at_rule : (f : FileName) (k : Code) (n : ℕ) (name : List ℕ) → is_code k c ≡ true → holds k d f n name ≡ true
+      → (is_code k c && is_kept x f && bytes_eq name (codes column)) ≡ true
+  at_rule (kept y) k n name same e =
+      let site = one_site y n name (ap (λ j. holds_in j d y n name) (sym (code_is k c same)) ∙ e) in
+      and_both (is_code k c && is_file x y) (bytes_eq name (codes column)) (and_both (is_code k c) (is_file x y) same (is_file_turned y x site.0)) site.1
+  at_rule (other t) k n name same e =
+      cc (sym of_files ∙ ap (λ j. is_code j code.W03) (sym (code_is k c same)) ∙ (and_parts (is_code k code.W03) _ e).0)
+
   pub reports_rule : (xs ys : List Problem) → Reports d (at_column c x (codes column)) xs ys → Reports d (of_codes (c ∷ [])) xs ys
-  reports_rule xs ys reported = reports_files d c (x ∷ []) of_files (λ y n name e. or_left (is_file y x) false (one_site y n name e).0) xs ys
-      (file_then d c x [] xs ys ys
-      (reports_columns d c x (column ∷ []) (λ n name e. or_left (bytes_eq name (codes column)) false (one_site x n name e).1) xs ys
-      (column_then d c x column [] xs ys ys reported (no_columns d c x ys)))
-      (no_files d c ys))
+  reports_rule xs ys = reports_wider d (at_column c x (codes column)) (of_codes (c ∷ [])) xs ys
+      (λ p e. or_left (is_code p.code c) false (and_parts (is_code p.code c) (is_kept x p.file) (and_parts (is_code p.code c && is_kept x p.file) (bytes_eq p.column (codes column)) e).0).0)
+      (λ p picked e. at_rule p.file p.code p.row p.column (sym (alone (is_code p.code c)) ∙ picked) e)

@@ -19,7 +19,7 @@ use Rattle.gtfs_columns.specs.StopRules.{has_parent_of_other_type, names_none_of
 use Rattle.gtfs_columns.specs.Values.{if_there, is_one_of}
 use Rattle.gtfs_columns.proofs.IdFacts.{first_row_is}
 use Rattle.gtfs_columns.proofs.BoolFacts.{and_parts}
-use Rattle.gtfs_columns.proofs.SiteSteps.{is_site}
+use Rattle.gtfs_columns.proofs.SiteFacts.{is_site}
 use Rattle.gtfs_columns.proofs.EachFacts.{any_follows}
 use Rattle.gtfs_columns.proofs.StepFacts.{Reported, is_file_turned, reported_there}
 

@@ -12,9 +12,8 @@ use Rattle.std.proofs.lemmas.Cmp.{eq_by_cmp_equiv}
 use Rattle.std.proofs.lemmas.List.Folds.{list_any-append}
 use Rattle.gtfs_table.specs.Tables.{Dataset}
 use Rattle.gtfs_table.specs.declared.file.File.{File}
-use Rattle.gtfs_table.specs.Rows.{Row, is_row, numbers, records_in, rows}
-use Rattle.gtfs_table.proofs.RowFacts.{numbers_more}
-use Rattle.gtfs_row_rules.specs.KeyView.{KeyAt, repeats_key}
+use Rattle.gtfs_table.specs.Rows.{is_row, records_in, rows}
+use Rattle.gtfs_row_rules.specs.KeyView.{KeyAt, has_key, repeats_key}
 use Rattle.gtfs_columns.specs.Values.{Value, value_eq, if_there, if_both}
 use Rattle.gtfs_row_rules.proofs.SingleKeyFacts.{none_below}
 
@@ -70,10 +69,6 @@ module _ (row : ℕ → Bool) (n : ℕ) where
 
 -- ---- keys so far
 
--- one of these rows has the key
-abbrev pub has_key : KeyAt → List ℕ → List Value → Bool
-has_key key ns k = list_any (λ m. if_there (key m) (pointwise value_eq k)) ns
-
 any_none : {X : Type 0} (xs : List X) → list_any (λ x. false) xs ≡ false
 any_none [] = refl
 any_none (x ∷ xs) = any_none xs
@@ -92,11 +87,11 @@ or_none true b = refl
 or_none false true = refl
 or_none false false = refl
 
-module _ {K : Type 0} (parts : K → List Value) (key : KeyAt) (taken : List Row) (n : ℕ) (r : List (List ℕ)) where
-  pub seen_here : (o : Option K) (had : K → Bool) → ((q : K) → had q ≡ has_key key (numbers taken) (parts q)) → option_map parts o ≡ key n
-      → if_there o had ≡ if_there (key n) (has_key key (numbers taken))
-  seen_here None had same e = ap (λ v. if_there v (has_key key (numbers taken))) e
-  seen_here (Some k) had same e = same k ∙ ap (λ v. if_there v (has_key key (numbers taken))) e
+module _ {K : Type 0} (parts : K → List Value) (key : KeyAt) (before : List ℕ) (n : ℕ) where
+  pub seen_here : (o : Option K) (had : K → Bool) → ((q : K) → had q ≡ has_key key before (parts q)) → option_map parts o ≡ key n
+      → if_there o had ≡ if_there (key n) (has_key key before)
+  seen_here None had same e = ap (λ v. if_there v (has_key key before)) e
+  seen_here (Some k) had same e = same k ∙ ap (λ v. if_there v (has_key key before)) e
 
   same_there : (cmp : K → K → Ordering) → IsTotalOrder cmp → ((a b : K) → is_eq (cmp a b) ≡ pointwise value_eq (parts a) (parts b)) → (o : Option K) (q : K)
       → if_there o (λ k. eq_by_cmp cmp k q) ≡ if_there (option_map parts o) (pointwise value_eq (parts q))
@@ -104,9 +99,9 @@ module _ {K : Type 0} (parts : K → List Value) (key : KeyAt) (taken : List Row
   same_there cmp total alike (Some k) q = (eq_by_cmp_equiv total).symm k q ∙ alike q k
 
   pub has_more : (cmp : K → K → Ordering) → IsTotalOrder cmp → ((a b : K) → is_eq (cmp a b) ≡ pointwise value_eq (parts a) (parts b)) → (o : Option K)
-      → option_map parts o ≡ key n → (q : K) (had has : Bool) → had ≡ has_key key (numbers taken) (parts q)
-      → has ≡ (had || if_there o (λ k. eq_by_cmp cmp k q)) → has ≡ has_key key (numbers (taken ++ (n, r) ∷ [])) (parts q)
-  has_more cmp total alike o e q had has before added =
-      added ∙ (λ i. before i || (same_there cmp total alike o q ∙ ap (λ v. if_there v (pointwise value_eq (parts q))) e) i)
-      ∙ or_none (has_key key (numbers taken) (parts q)) (if_there (key n) (pointwise value_eq (parts q)))
-      ∙ sym (ap (λ ns. has_key key ns (parts q)) (numbers_more taken n r) ∙ list_any-append (λ m. if_there (key m) (pointwise value_eq (parts q))) (numbers taken) (n ∷ []))
+      → option_map parts o ≡ key n → (q : K) (had has : Bool) → had ≡ has_key key before (parts q)
+      → has ≡ (had || if_there o (λ k. eq_by_cmp cmp k q)) → has ≡ has_key key (before ++ n ∷ []) (parts q)
+  has_more cmp total alike o e q had has same added =
+      added ∙ (λ i. same i || (same_there cmp total alike o q ∙ ap (λ v. if_there v (pointwise value_eq (parts q))) e) i)
+      ∙ or_none (has_key key before (parts q)) (if_there (key n) (pointwise value_eq (parts q)))
+      ∙ sym (list_any-append (λ m. if_there (key m) (pointwise value_eq (parts q))) before (n ∷ []))

@@ -6,6 +6,8 @@ pub mod KeyParts
 pub mod KeySteps
 pub mod LocatedFacts
 pub mod PresenceFacts
+pub mod RowSites
+pub mod RowSteps
 pub mod SingleKeyFacts
 pub mod StopKindFacts
 pub mod ZoneFacts

@@ -9,13 +9,9 @@ use Rattle.std.proofs.lemmas.Bool.Decides.{nat_tests}
 use Rattle.gtfs_field.specs.Kinds.{shaped}
 use Rattle.gtfs_table.specs.Tables.{Dataset}
 use Rattle.gtfs_table.specs.declared.file.File.{File}
-use Rattle.gtfs_columns.specs.declared.code.Code.TheVariants as code
 use Rattle.gtfs_columns.specs.Columns.{id}
-use Rattle.gtfs_columns.specs.steps.Found.{Reports}
 use Rattle.gtfs_columns.specs.steps.Ids.{FirstRows, first_rows}
 use Rattle.gtfs_columns.specs.KeyRules.{all_there, key_twice}
-use Rattle.gtfs_columns.specs.steps.Picks.{at_column, in_file, is_kept}
-use Rattle.gtfs_columns.specs.Problems.{Problem, holds, is_code, is_problem}
 use Rattle.gtfs_columns.specs.References.{reported_column}
 use Rattle.gtfs_table.specs.Rows.{is_row, records_in, rows, is_empty}
 use Rattle.gtfs_columns.specs.Rows.{text_in}
@@ -24,8 +20,7 @@ use Rattle.gtfs_columns.specs.Reads.{is_id}
 use Rattle.gtfs_columns.specs.Values.{Value, word, value_eq, has_control, if_both, if_there, readable}
 use Rattle.gtfs_columns.proofs.IdFacts.{first_row_is}
 use Rattle.gtfs_columns.proofs.BoolFacts.{same_test, no_test, and_parts}
-use Rattle.gtfs_columns.proofs.SiteFacts.{code_is, file_is, text_is, text_itself}
-use Rattle.gtfs_columns.proofs.ReportingFacts.{reports_alike}
+use Rattle.gtfs_columns.proofs.SiteFacts.{text_is, text_itself}
 
 -- ---- the key of a text
 
@@ -123,16 +118,9 @@ single_reported d x name i ids n =
 pub repeats_alike : (reported row : Bool) (i j : FirstRows) (t u : List ℕ) (n : ℕ) → reported ≡ (row && is_repeated i t n) → j ≡ i → u ≡ t → reported ≡ (row && is_repeated j u n)
 repeats_alike reported row i j t u n rule ids text = rule ∙ (λ k. row && is_repeated (sym ids k) (sym text k) n)
 
--- ---- reported in a file
+-- ---- reported at one column
 
-pub reports_key : (d : Dataset) (x : File) (name : List ℕ) (xs ys : List Problem) → reported_column x ≡ name → Reports d (at_column code.E09 x name) xs ys → Reports d (in_file code.E09 x) xs ys
-reports_key d x name xs ys column = reports_alike d (at_column code.E09 x name) (in_file code.E09 x) xs ys
-    (λ p. same_test (at_column code.E09 x name p && is_problem d p) (in_file code.E09 x p && is_problem d p)
-    (λ e. let parts = and_parts (at_column code.E09 x name p) (is_problem d p) e in
-    and_from (in_file code.E09 x p) (is_problem d p) (and_parts (in_file code.E09 x p) (bytes_eq p.column name) parts.0).0 parts.1)
-    (λ e. let parts = and_parts (in_file code.E09 x p) (is_problem d p) e in
-    let site = and_parts (is_code p.code code.E09) (is_kept x p.file) parts.0 in
-    let there : key_twice d x p.row p.column ≡ true = sym (λ i. holds (code_is p.code code.E09 site.0 i) d (file_is x p.file site.1 i) p.row p.column) ∙ parts.1 in
-    let row = is_row (records_in d x) p.row in
-    let at = (and_parts (bytes_eq p.column (reported_column x)) row (and_parts (bytes_eq p.column (reported_column x) && row) _ there).0).0 in
-    and_from (at_column code.E09 x name p) (is_problem d p) (and_from (in_file code.E09 x p) (bytes_eq p.column name) parts.0 (ap (bytes_eq p.column) (sym column) ∙ at)) parts.1))
+pub key_there : (d : Dataset) (x : File) (n : ℕ) (name : List ℕ) → key_twice d x n name ≡ true → bytes_eq name (reported_column x) ≡ true
+key_there d x n name e =
+    let row = is_row (records_in d x) n in
+    (and_parts (bytes_eq name (reported_column x)) row (and_parts (bytes_eq name (reported_column x) && row) _ e).0).0

@@ -1,19 +1,16 @@
 -- The kinds of stops that rows name.
 use Rattle.std.proofs.Common.{◌≡◌, ℕ, ◌∷◌, [], List, true, false, Bool, Option, Some, None, codes, refl, sym, ap, ◌∙◌}
 use Rattle.std.specs.Prelude.{◌&&◌, ◌||◌, not, ℤ}
-use Rattle.std.specs.List.{list_any}
 use Rattle.gtfs_table.specs.Tables.{Dataset}
 use Rattle.gtfs_table.specs.declared.file.File.{File}
 use Rattle.gtfs_table.specs.declared.file.File.TheVariants as file
 use Rattle.gtfs_columns.specs.steps.Ids.{FirstRows, first_rows}
-use Rattle.gtfs_columns.specs.steps.Picks.{is_kept}
-use Rattle.gtfs_columns.specs.Problems.{FileName, kept, other}
 use Rattle.gtfs_columns.specs.Rows.{choice_in, is_file}
 use Rattle.gtfs_columns.specs.steps.StopTypes.{AreStopTypes, type_of, type_with}
 use Rattle.gtfs_row_rules.specs.StopKinds.{is_other_parent}
 use Rattle.gtfs_columns.specs.StopRules.{wrong_kind_of_stop}
 use Rattle.gtfs_columns.specs.Values.{if_there, is_one_of}
-use Rattle.gtfs_columns.proofs.SiteSteps.{is_site}
+use Rattle.gtfs_columns.proofs.SiteFacts.{is_site}
 use Rattle.gtfs_columns.proofs.StopTypeFacts.{alone, kind_sites, read_type, same_type, reported_at_kinds}
 
 -- ---- rows that name stops
@@ -58,8 +55,3 @@ kinds_there x name elsewhere = refl
 pub reported_at_other_kinds : (d : Dataset) (x : File) (n : ℕ) (name : List ℕ) → not (is_file file.StopTimes x) ≡ true → wrong_kind_of_stop d x n name ≡ true
     → is_site other_kinds x name ≡ true
 reported_at_other_kinds d x n name elsewhere e = sym (kinds_there x name elsewhere) ∙ reported_at_kinds d x n name e
-
-pub other_kinds_apart : (f : FileName) → list_any (λ (site : File × List ℕ). is_kept site.0 f) other_kinds ≡ true → not (is_kept file.StopTimes f) ≡ true
-other_kinds_apart (kept file.StopTimes) e = cc e
-other_kinds_apart (kept x) e = refl
-other_kinds_apart (other t) e = cc e

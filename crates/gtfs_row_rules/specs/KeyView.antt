@@ -8,7 +8,7 @@ use Rattle.gtfs_table.specs.Rows.{is_empty, records_in, rows}
 use Rattle.gtfs_columns.specs.Columns.{Kind, date, id, time}
 use Rattle.gtfs_columns.specs.KeyRules.{all_there}
 use Rattle.gtfs_columns.specs.Rows.{text_in}
-use Rattle.gtfs_columns.specs.Values.{Value, word, value_eq, if_both, readable}
+use Rattle.gtfs_columns.specs.Values.{Value, word, value_eq, if_both, if_there, readable}
 use Rattle.gtfs_row_rules.specs.declared.keys.Number.{Number}
 use Rattle.gtfs_row_rules.specs.declared.keys.Number.TheVariants as numbers
 
@@ -23,6 +23,10 @@ key_at key d x n = key (record_at (records_in d x) n)
 -- an earlier row of the file has the key of this one
 abbrev pub repeats_key : KeyAt → Dataset → File → ℕ → Bool
 repeats_key key d x n = list_any (λ m. nat_lt m n && if_both (key n) (key m) (pointwise value_eq)) (rows d x)
+
+-- one of these rows has the key
+abbrev pub has_key : KeyAt → List ℕ → List Value → Bool
+has_key key ns k = list_any (λ m. if_there (key m) (pointwise value_eq k)) ns
 
 -- a key of an id and a number
 abbrev pub kind_of_number : Number → Kind

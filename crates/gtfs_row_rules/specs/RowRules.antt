@@ -1,8 +1,8 @@
 -- Rules about the rows of one file, as a step judges them one after the other.
-use Rattle.std.specs.Prelude.{◌≡◌, ◌&&◌, ◌||◌, ◌==◌, ℕ, Bool, true, false, List, refl}
-use Rattle.gtfs_table.specs.Tables.{Dataset}
+use Rattle.std.specs.Prelude.{◌≡◌, ◌&&◌, ◌||◌, ◌==◌, ◌++◌, ℕ, Bool, true, false, List, ◌∷◌, refl}
+use Rattle.gtfs_table.specs.Tables.{Dataset, record_at}
 use Rattle.gtfs_table.specs.declared.file.File.{File}
-use Rattle.gtfs_table.specs.Rows.{is_row, records_in}
+use Rattle.gtfs_table.specs.Rows.{is_row, records_in, rows}
 use Rattle.gtfs_columns.specs.declared.code.Code.{Code}
 use Rattle.gtfs_columns.specs.steps.Found.{Reports}
 use Rattle.gtfs_columns.specs.Problems.{Problem, holds_in, is_problem}
@@ -14,6 +14,13 @@ HoldsWhere c d x name test = (n : ℕ) → holds_in c d x n name ≡ (is_row (re
 -- which problems a pass looks at
 abbrev pub Picks : Type 0
 Picks = Problem → Bool
+
+-- the row n, whose record is r, is the next of its file after those before it
+pub record IsNext (d : Dataset) (x : File) (before : List ℕ) (n : ℕ) (r : List (List ℕ)) : Type 0 where
+  pub after : List ℕ
+  pub is_row : is_row (records_in d x) n ≡ true
+  pub record_is : r ≡ record_at (records_in d x) n
+  pub split : rows d x ≡ before ++ n ∷ after
 
 -- of the picked problems of a row just those that the dataset has were added
 abbrev pub ReportsOfRow : Dataset → Picks → ℕ → List Problem → List Problem → Type 0

@@ -1,77 +1,22 @@
 ghost use Rattle.std.specs.Prelude.{◌≡◌, ◌&&◌, filter_map, length, map, IfOk, OnOk};
 ghost use Rattle.gtfs_columns.specs.Columns.{columns_of};
 ghost use Rattle.gtfs_columns.specs.steps.ColumnView.{column_of};
-ghost use Rattle.gtfs_columns.specs.steps.FieldCodes.{field_codes, in_file_of, is_found_at, is_in_row, length_code, in_fields};
+ghost use Rattle.gtfs_columns.specs.steps.FieldCodes.{field_codes, in_file_of, is_found_at, is_in_row, length_code};
 ghost use Rattle.gtfs_row_rules.specs.HeaderView.{located, located_of, row_reports, IsHeader};
-ghost use Rattle.gtfs_columns.specs.steps.Found.{Adds, Reports};
+ghost use Rattle.gtfs_columns.proofs.FieldRowFacts.{silent_fields};
+ghost use Rattle.gtfs_columns.specs.steps.Found.{Adds};
 ghost use Rattle.gtfs_table.specs.Rows.{records_in};
 
-use gtfs_columns::{
-    Code, Column, FileName, Found, Problem, agency_columns, calendar_columns,
-    calendar_dates_columns, cell_code, frequencies_columns, length_code, routes_columns,
-    stops_columns, transfers_columns, trips_columns,
-};
+use crate::rule::RowRules;
+use gtfs_columns::{Code, Column, FileName, Found, Problem, cell_code, length_code};
 use gtfs_field::OutOfMemory;
 use gtfs_table::{File, Record, Tables};
 use std::alloc::Global;
 
-/// Reports what is wrong with single fields and with the lengths of rows, in one pass over each
-/// file but for `stop_times.txt` (E06, E07, E08, E20, W01, W02, W05).
-///
-/// # Errors
-/// `OutOfMemory` where the problems that were found cannot grow,
-/// or there is no room for the columns of a file.
-pub fn report_fields<'a>(
-    alloc: Global,
-    tables: &'a Tables,
-    found: &mut Found<'a>,
-) -> Result<(), OutOfMemory>
-    ensures { OnOk result (Reports tables.now in_fields found.old found.new) }
-{
-    report_file(alloc, tables, File::Agency, &agency_columns(), found)?;
-    report_file(alloc, tables, File::Stops, &stops_columns(), found)?;
-    report_file(alloc, tables, File::Routes, &routes_columns(), found)?;
-    report_file(alloc, tables, File::Trips, &trips_columns(), found)?;
-    report_file(alloc, tables, File::Calendar, &calendar_columns(), found)?;
-    report_file(
-        alloc,
-        tables,
-        File::CalendarDates,
-        &calendar_dates_columns(),
-        found,
-    )?;
-    report_file(
-        alloc,
-        tables,
-        File::Frequencies,
-        &frequencies_columns(),
-        found,
-    )?;
-    report_file(alloc, tables, File::Transfers, &transfers_columns(), found)
-}
-
-fn report_file<'a>(
-    alloc: Global,
-    tables: &'a Tables,
-    file: File,
-    columns: &[Column],
-    found: &mut Found<'a>,
-) -> Result<(), OutOfMemory>
-    requires { map column_of columns.now ≡ columns_of file }
-    ensures { OnOk result
-        (Reports tables.now (in_file_of field_codes file) found.old found.new) }
-{
-    let header = Header::new(alloc, tables, file, columns)?;
-    for (row, record) in tables.rows(file) {
-        header.report_row(row, &record, found)?;
-    }
-    Ok(())
-}
-
 // What a header says of the rows below it: how many fields they have to have, and where the kept
 // columns are that it names. A column that it does not name has no problem in any row.
 #[derive(Drop)]
-struct Header {
+pub(crate) struct Header {
     file: File,
     width: usize,
     columns: Vec<Located>,
@@ -84,7 +29,7 @@ struct Located {
 }
 
 impl Header {
-    fn new(
+    pub(crate) fn new(
         alloc: Global,
         tables: &Tables,
         file: File,
@@ -142,6 +87,26 @@ impl Header {
             column,
         };
         found.report_if(problem, true)
+    }
+}
+
+// A header is a rule about the rows of its file.
+impl RowRules for Header {
+    ghost holds = { λ s d x before. IsHeader d x s };
+
+    ghost picks = { λ s x. in_file_of field_codes x };
+
+    ghost silent = { λ s d x before h. silent_fields d x };
+
+    #[inline(always)]
+    fn report(
+        &mut self,
+        file: File,
+        row: usize,
+        record: &Record<'_>,
+        found: &mut Found<'_>,
+    ) -> Result<(), OutOfMemory> {
+        self.report_row(row, record, found)
     }
 }
 

@@ -1,28 +1,29 @@
-ghost use Rattle.std.specs.Prelude.{◌≡◌, ◌||◌, ℕ, List, Option, [], ◌∷◌, option_map, IfOk, OnOk};
+ghost use Rattle.std.specs.Prelude.{◌≡◌, ◌||◌, ℕ, List, Option, [], ◌∷◌, codes, option_map, IfOk, OnOk};
 ghost use Rattle.std.specs.BTreeSet.{contains};
 ghost use Rattle.std.specs.Cmp.Lexicographic.{pointwise};
 ghost use Rattle.std.specs.Ordering.{eq_by_cmp, is_eq};
 ghost use Rattle.gtfs_columns.specs.KeyRules.{all_there};
+ghost use Rattle.gtfs_columns.specs.declared.code.Code.TheVariants as Code;
 ghost use Rattle.gtfs_columns.specs.Reads.{amount_of};
-ghost use Rattle.gtfs_columns.specs.References.{reported_column};
 ghost use Rattle.gtfs_columns.specs.Values.{Value, amount, if_there, value_eq, word};
-ghost use Rattle.gtfs_columns.specs.steps.Found.{Reports};
-ghost use Rattle.gtfs_columns.specs.steps.Picks.{at_column, in_composite_keys, in_file};
+ghost use Rattle.gtfs_columns.proofs.RuleFacts.{silent_column};
+ghost use Rattle.gtfs_columns.specs.steps.Picks.{at_column};
 ghost use Rattle.gtfs_row_rules.specs.KeyOrder.{numbered_alike, six_alike};
-ghost use Rattle.gtfs_row_rules.specs.KeyView.{end_part, kind_of_number, numbered_in, numbered_key, repeats_key};
+ghost use Rattle.gtfs_row_rules.specs.KeyView.{end_part, has_key, kind_of_number, numbered_in, numbered_key, repeats_key};
 ghost use Rattle.gtfs_row_rules.specs.RowRules.{HoldsWhere};
 ghost use Rattle.gtfs_table.specs.Rows.{records_in};
 ghost use Rattle.gtfs_table.specs.Tables.{field_under, record_at};
 ghost use Rattle.gtfs_table.specs.declared.file.File.TheVariants as files;
 
+use crate::rule::RowRules;
 use gtfs_columns::{Code, FileName, Found, Problem, values};
 use gtfs_field::OutOfMemory;
-use gtfs_table::{File, Tables};
+use gtfs_table::{File, Record, Tables};
 use std::alloc::Global;
 use std::collections::BTreeSet;
 
 // The keys of the rows of a file.
-trait Keys {
+pub(crate) trait Keys {
     type Key: Ord + Copy + Drop;
 
     ghost parts: { Self.Key → List Value };
@@ -52,37 +53,47 @@ fn was_seen<K: Ord + Drop>(
     }
 }
 
-// Reports the rows of a file whose key an earlier row has.
-fn report_repeats<'a, K: Keys>(
-    alloc: Global,
-    tables: &'a Tables,
-    file: File,
-    column: &'a str,
-    keys: &K,
-    found: &mut Found<'a>,
-) -> Result<(), OutOfMemory>
-    requires { HoldsWhere Code.E09 tables.now file column.now
-        (repeats_key (K.key_at keys.now) tables.now file) }
-    ensures { OnOk result
-        (Reports tables.now (at_column Code.E09 file column.now) found.old found.new) }
-{
-    let mut seen = BTreeSet::new(alloc);
-    for (row, _) in tables.rows(file) {
+// The rule that no earlier row of a file has the key of a row: the column where it is reported, the
+// keys of the rows, and those seen so far.
+#[derive(Drop)]
+pub(crate) struct RepeatedKey<K: Keys> {
+    column: &'static str,
+    keys: K,
+    seen: BTreeSet<K::Key, Global>,
+}
+
+impl<K: Keys> RowRules for RepeatedKey<K> {
+    ghost holds = { λ s d x before. HoldsWhere Code.E09 d x s.column.now
+        (repeats_key (K.key_at s.keys) d x)
+        × ((q : K.Key) → contains K.Key.cmp s.seen q
+        ≡ has_key (K.key_at s.keys) before (K.parts q)) };
+
+    ghost picks = { λ s x. at_column Code.E09 x s.column.now };
+
+    ghost silent = { λ s d x before h. silent_column d Code.E09 x s.column.now
+        (repeats_key (K.key_at s.keys) d x) h.0 };
+
+    fn report(
+        &mut self,
+        file: File,
+        row: usize,
+        record: &Record<'_>,
+        found: &mut Found<'_>,
+    ) -> Result<(), OutOfMemory> {
+        let repeats = was_seen(&mut self.seen, self.keys.key(row))?;
         let problem = Problem {
             file: FileName::Kept(file),
             row,
             code: Code::E09,
-            column,
+            column: self.column,
         };
-        let repeats = was_seen(&mut seen, keys.key(row))?;
-        found.report_if(problem, repeats)?;
+        found.report_if(problem, repeats)
     }
-    Ok(())
 }
 
 // The number in a key: that of a date, or the seconds of a time.
 #[derive(Clone, Copy)]
-enum Number {
+pub(crate) enum Number {
     Date,
     Time,
 }
@@ -102,7 +113,7 @@ impl Number {
 // frequencies.txt the id of a trip and the start of a period. The number comes first: it mostly
 // tells two keys apart without a look at texts.
 #[derive(Clone, Copy)]
-struct NumberedKeys<'a> {
+pub(crate) struct NumberedKeys<'a> {
     tables: &'a Tables,
     file: File,
     id: Option<usize>,
@@ -130,7 +141,7 @@ impl<'a> Keys for NumberedKeys<'a> {
 
 // The keys of transfers.txt: the ids of both stops, both routes and both trips, some of them empty.
 #[derive(Clone, Copy)]
-struct TransferKeys<'a> {
+pub(crate) struct TransferKeys<'a> {
     tables: &'a Tables,
     from_stop: Option<usize>,
     to_stop: Option<usize>,
@@ -178,55 +189,19 @@ fn end_id(text: &str) -> Option<&str>
     }
 }
 
-/// Reports each row of `calendar_dates.txt`, `frequencies.txt` and `transfers.txt` whose key an
-/// earlier row of the file has (E09).
-///
-/// # Errors
-/// `OutOfMemory` where the problems that were found cannot grow,
-/// or there is no room for the keys of a file.
-pub fn report_composite_keys<'a>(
-    alloc: Global,
-    tables: &'a Tables,
-    found: &mut Found<'a>,
-) -> Result<(), OutOfMemory>
-    ensures { OnOk result (Reports tables.now in_composite_keys found.old found.new) }
-{
-    let dates = File::CalendarDates;
-    report_numbered_keys(
-        alloc,
-        tables,
-        dates,
-        "service_id",
-        "date",
-        Number::Date,
-        found,
-    )?;
-    let frequencies = File::Frequencies;
-    report_numbered_keys(
-        alloc,
-        tables,
-        frequencies,
-        "trip_id",
-        "start_time",
-        Number::Time,
-        found,
-    )?;
-    report_transfer_keys(alloc, tables, found)
-}
-
-fn report_numbered_keys<'a>(
+// The rule about keys of an id and a number, reported at the column of the number.
+pub(crate) fn repeated_numbered<'a>(
     alloc: Global,
     tables: &'a Tables,
     file: File,
     id: &str,
-    number: &'a str,
+    number: &'static str,
     kind: Number,
-    found: &mut Found<'a>,
-) -> Result<(), OutOfMemory>
-    requires column { reported_column file ≡ number.now }
-    requires rule { HoldsWhere Code.E09 tables.now file number.now
+) -> RepeatedKey<NumberedKeys<'a>>
+    requires { HoldsWhere Code.E09 tables.now file number.now
         (repeats_key (numbered_in kind tables.now file id.now number.now) tables.now file) }
-    ensures { OnOk result (Reports tables.now (in_file Code.E09 file) found.old found.new) }
+    ensures column { result.column.now ≡ number.now }
+    ensures rule { ⟦<RepeatedKey<NumberedKeys<'a>> as RowRules>⟧.holds result tables.now file [] }
 {
     let keys = NumberedKeys {
         tables,
@@ -235,16 +210,20 @@ fn report_numbered_keys<'a>(
         number: tables.column(file, number),
         kind,
     };
-    report_repeats(alloc, tables, file, number, &keys, found)
+    RepeatedKey {
+        column: number,
+        keys,
+        seen: BTreeSet::new(alloc),
+    }
 }
 
-fn report_transfer_keys<'a>(
+// The rule about the keys of transfers.txt.
+pub(crate) fn repeated_transfer<'a>(
     alloc: Global,
     tables: &'a Tables,
-    found: &mut Found<'a>,
-) -> Result<(), OutOfMemory>
-    ensures { OnOk result
-        (Reports tables.now (in_file Code.E09 File.Transfers) found.old found.new) }
+) -> RepeatedKey<TransferKeys<'a>>
+    ensures column { result.column.now ≡ codes "from_stop_id" }
+    ensures rule { ⟦<RepeatedKey<TransferKeys<'a>> as RowRules>⟧.holds result tables.now File.Transfers [] }
 {
     let keys = TransferKeys {
         tables,
@@ -255,5 +234,9 @@ fn report_transfer_keys<'a>(
         from_trip: tables.column(File::Transfers, "from_trip_id"),
         to_trip: tables.column(File::Transfers, "to_trip_id"),
     };
-    report_repeats(alloc, tables, File::Transfers, "from_stop_id", &keys, found)
+    RepeatedKey {
+        column: "from_stop_id",
+        keys,
+        seen: BTreeSet::new(alloc),
+    }
 }

@@ -1,10 +1,10 @@
-ghost use Rattle.std.specs.Prelude.{◌≡◌, ◌||◌, ⊤, ℕ, Bool, List, true, false, OnOk};
+ghost use Rattle.std.specs.Prelude.{◌≡◌, ◌||◌, ◌++◌, ⊤, ℕ, Bool, List, [], ◌∷◌, false, OnOk};
 ghost use Rattle.gtfs_columns.specs.steps.Found.{Reports};
 ghost use Rattle.gtfs_columns.specs.steps.Picks.{at_column};
 ghost use Rattle.gtfs_columns.proofs.RuleFacts.{silent_column};
-ghost use Rattle.gtfs_row_rules.specs.RowRules.{HoldsWhere, Picks, ReportsOfRow};
+ghost use Rattle.gtfs_row_rules.specs.RowRules.{HoldsWhere, IsNext, Picks, ReportsOfRow};
 ghost use Rattle.gtfs_row_rules.specs.RowRules.{IsSilent, both_silent};
-ghost use Rattle.gtfs_table.specs.Rows.{is_row, records_in};
+ghost use Rattle.gtfs_table.specs.Rows.{records_in};
 ghost use Rattle.gtfs_table.specs.Tables.{Dataset, record_at};
 ghost use Rattle.gtfs_table.specs.declared.file.File.{File};
 
@@ -26,13 +26,14 @@ pub(crate) trait Rule {
 // Rules that one pass asks of each row of a file: one at its site, or a pair, whose second may be a
 // pair again.
 pub(crate) trait RowRules {
-    // The rules are those of the dataset, at the columns of the file where they are reported.
-    ghost holds: { Self → Dataset → File → Type 0 };
+    // The rules are those of the dataset, at the columns of the file where they are reported, and
+    // have judged these rows.
+    ghost holds: { Self → Dataset → File → List ℕ → Type 0 };
 
     // The problems that the rules look at.
     ghost picks: { Self → File → Picks };
 
-    // Reports what is wrong with a row. The rules stay the same.
+    // Reports what is wrong with the next row.
     fn report(
         &mut self,
         file: File,
@@ -40,15 +41,16 @@ pub(crate) trait RowRules {
         record: &Record<'_>,
         found: &mut Found<'_>,
     ) -> Result<(), OutOfMemory>
-        ensures reported { OnOk result ((d : Dataset) → holds self.old d file
-            → is_row (records_in d file) row ≡ true
-            → «record».now ≡ record_at (records_in d file) row
+        ensures reported { OnOk result ((d : Dataset) (before : List ℕ)
+            → holds self.old d file before → IsNext d file before row «record».now
             → ReportsOfRow d (picks self.old file) row found.old found.new) }
-        ensures holding { (d : Dataset) (x : File) → holds self.old d x → holds self.new d x }
+        ensures holding { OnOk result ((d : Dataset) (before : List ℕ)
+            → holds self.old d file before → IsNext d file before row «record».now
+            → holds self.new d file (before ++ row ∷ [])) }
         ensures same { picks self.new ≡ picks self.old };
 
     // None of them stands at a record that is no row, so that rows are all that a pass walks.
-    ghost silent: { (s : Self) (d : Dataset) (x : File) → holds s d x
+    ghost silent: { (s : Self) (d : Dataset) (x : File) (before : List ℕ) → holds s d x before
         → IsSilent d x (picks s x) };
 }
 
@@ -57,12 +59,12 @@ pub(crate) trait RowRules {
 pub(crate) struct At<R>(pub(crate) Code, pub(crate) &'static str, pub(crate) R);
 
 impl<R: Rule> RowRules for At<R> {
-    ghost holds = { λ s d x. HoldsWhere s.0 d x s.1.now
+    ghost holds = { λ s d x before. HoldsWhere s.0 d x s.1.now
         (λ n. R.breaks s.2 n (record_at (records_in d x) n)) };
 
     ghost picks = { λ s x. at_column s.0 x s.1.now };
 
-    ghost silent = { λ s d x. silent_column d s.0 x s.1.now
+    ghost silent = { λ s d x before. silent_column d s.0 x s.1.now
         (λ n. R.breaks s.2 n (record_at (records_in d x) n)) };
 
     #[inline(always)]
@@ -84,12 +86,12 @@ impl<R: Rule> RowRules for At<R> {
 }
 
 impl<A: RowRules, B: RowRules> RowRules for (A, B) {
-    ghost holds = { λ s d x. A.holds s.0 d x × B.holds s.1 d x };
+    ghost holds = { λ s d x before. A.holds s.0 d x before × B.holds s.1 d x before };
 
     ghost picks = { λ s x p. A.picks s.0 x p || B.picks s.1 x p };
 
-    ghost silent = { λ s d x h. both_silent d x (A.picks s.0 x) (B.picks s.1 x)
-        (A.silent s.0 d x h.0) (B.silent s.1 d x h.1) };
+    ghost silent = { λ s d x before h. both_silent d x (A.picks s.0 x) (B.picks s.1 x)
+        (A.silent s.0 d x before h.0) (B.silent s.1 d x before h.1) };
 
     #[inline(always)]
     fn report(
@@ -106,11 +108,11 @@ impl<A: RowRules, B: RowRules> RowRules for (A, B) {
 
 // The end of a list of pairs.
 impl RowRules for () {
-    ghost holds = { λ s d x. ⊤ };
+    ghost holds = { λ s d x before. ⊤ };
 
     ghost picks = { λ s x p. false };
 
-    ghost silent = { λ s d x h p picked. cc picked };
+    ghost silent = { λ s d x before h p picked. cc picked };
 
     fn report(
         &mut self,
@@ -124,13 +126,13 @@ impl RowRules for () {
 }
 
 // Reports what is wrong with the rows of a file, in one pass.
-pub(crate) fn report_rows<'a, R: RowRules>(
+pub(crate) fn judge_rows<'a, R: RowRules>(
     tables: &'a Tables,
     file: File,
     rules: &mut R,
     found: &mut Found<'a>,
 ) -> Result<(), OutOfMemory>
-    requires { R.holds rules.old tables.now file }
+    requires { R.holds rules.old tables.now file [] }
     ensures { OnOk result (Reports tables.now (R.picks rules.old file) found.old found.new) }
 {
     for (row, record) in tables.rows(file) {

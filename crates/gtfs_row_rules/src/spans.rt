@@ -1,19 +1,19 @@
-ghost use Rattle.std.specs.Prelude.{[], ◌∷◌, int_le, int_lt, OnOk};
+ghost use Rattle.std.specs.Prelude.{◌≡◌, ℕ, int_le, int_lt};
 ghost use Rattle.gtfs_columns.specs.Columns.{date, time};
 ghost use Rattle.gtfs_columns.specs.Reads.{amount_of};
 ghost use Rattle.gtfs_columns.specs.Values.{if_both};
-ghost use Rattle.gtfs_columns.specs.steps.Found.{Reports};
-ghost use Rattle.gtfs_columns.specs.steps.Picks.{of_codes};
-ghost use Rattle.gtfs_table.specs.Tables.{field_under};
+ghost use Rattle.gtfs_columns.specs.PeriodRules.{ends_at_start};
+ghost use Rattle.gtfs_columns.specs.ServiceRules.{ends_before_start};
+ghost use Rattle.gtfs_table.specs.Rows.{records_in};
+ghost use Rattle.gtfs_table.specs.Tables.{field_under, record_at};
 
-use crate::rule::{At, Rule, report_rows};
-use gtfs_columns::{Code, Found, values};
-use gtfs_field::OutOfMemory;
+use crate::rule::Rule;
+use gtfs_columns::values;
 use gtfs_table::{File, Record, Tables};
 
 // A row of calendar.txt ends before it starts.
 #[derive(Clone, Copy)]
-struct EndsBeforeStart {
+pub(crate) struct EndsBeforeStart {
     start: Option<usize>,
     end: Option<usize>,
 }
@@ -32,7 +32,7 @@ impl Rule for EndsBeforeStart {
 // A row of frequencies.txt is a frequency, and its period the span of seconds from its start to its
 // end. This one ends at its start or before.
 #[derive(Clone, Copy)]
-struct EndsAtStart {
+pub(crate) struct EndsAtStart {
     start: Option<usize>,
     end: Option<usize>,
 }
@@ -48,37 +48,24 @@ impl Rule for EndsAtStart {
     }
 }
 
-/// Reports rows of `calendar.txt` that end before they start (E14),
-/// and frequencies that do not end after their start (E18).
-///
-/// # Errors
-/// `OutOfMemory` where the problems that were found cannot grow.
-pub fn report_spans<'a>(tables: &'a Tables, found: &mut Found<'a>) -> Result<(), OutOfMemory>
-    ensures { OnOk result
-        (Reports tables.now (of_codes (Code.E14 ∷ Code.E18 ∷ [])) found.old found.new) }
+pub(crate) fn ends_before_start(tables: &Tables) -> EndsBeforeStart
+    ensures { (n : ℕ) → ⟦<EndsBeforeStart as Rule>⟧.breaks result n
+        (record_at (records_in tables.now File.Calendar) n)
+        ≡ ends_before_start tables.now n }
 {
-    report_calendar_spans(tables, found)?;
-    report_empty_periods(tables, found)
-}
-
-fn report_calendar_spans<'a>(tables: &'a Tables, found: &mut Found<'a>) -> Result<(), OutOfMemory>
-    ensures { OnOk result (Reports tables.now (of_codes (Code.E14 ∷ [])) found.old found.new) }
-{
-    let rule = EndsBeforeStart {
+    EndsBeforeStart {
         start: tables.column(File::Calendar, "start_date"),
         end: tables.column(File::Calendar, "end_date"),
-    };
-    let mut rule = At(Code::E14, "end_date", rule);
-    report_rows(tables, File::Calendar, &mut rule, found)
+    }
 }
 
-fn report_empty_periods<'a>(tables: &'a Tables, found: &mut Found<'a>) -> Result<(), OutOfMemory>
-    ensures { OnOk result (Reports tables.now (of_codes (Code.E18 ∷ [])) found.old found.new) }
+pub(crate) fn ends_at_start(tables: &Tables) -> EndsAtStart
+    ensures { (n : ℕ) → ⟦<EndsAtStart as Rule>⟧.breaks result n
+        (record_at (records_in tables.now File.Frequencies) n)
+        ≡ ends_at_start tables.now n }
 {
-    let rule = EndsAtStart {
+    EndsAtStart {
         start: tables.column(File::Frequencies, "start_time"),
         end: tables.column(File::Frequencies, "end_time"),
-    };
-    let mut rule = At(Code::E18, "end_time", rule);
-    report_rows(tables, File::Frequencies, &mut rule, found)
+    }
 }

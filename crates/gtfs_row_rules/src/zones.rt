@@ -1,21 +1,18 @@
-ghost use Rattle.std.specs.Prelude.{◌≡◌, not, [], ◌∷◌, bytes_eq, codes, option_map, OnOk};
+ghost use Rattle.std.specs.Prelude.{◌≡◌, ℕ, not, bytes_eq, codes, option_map};
 ghost use Rattle.gtfs_columns.specs.Columns.{id};
-ghost use Rattle.gtfs_columns.specs.steps.Found.{Reports};
-ghost use Rattle.gtfs_columns.specs.steps.Picks.{of_codes};
-ghost use Rattle.gtfs_columns.specs.PresenceRules.{first_zone};
+ghost use Rattle.gtfs_columns.specs.PresenceRules.{first_zone, has_other_zone};
 ghost use Rattle.gtfs_columns.specs.Reads.{word_of};
 ghost use Rattle.gtfs_columns.specs.Values.{if_both};
 ghost use Rattle.gtfs_table.specs.Rows.{records_in};
-ghost use Rattle.gtfs_table.specs.Tables.{column_of, field_under};
+ghost use Rattle.gtfs_table.specs.Tables.{column_of, field_under, record_at};
 
-use crate::rule::{At, Rule, report_rows};
-use gtfs_columns::{Code, Found, values};
-use gtfs_field::OutOfMemory;
+use crate::rule::Rule;
+use gtfs_columns::values;
 use gtfs_table::{File, Record, Tables};
 
 // The zone of an agency is another than that of the first agency with a readable one.
 #[derive(Drop)]
-struct HasOtherZone<'a> {
+pub(crate) struct HasOtherZone<'a> {
     zone: Option<usize>,
     first: Option<&'a str>,
 }
@@ -32,17 +29,14 @@ impl Rule for HasOtherZone<'_> {
     }
 }
 
-/// Reports agencies whose zone is another than that of the first agency with a readable one (E13).
-///
-/// # Errors
-/// `OutOfMemory` where the problems that were found cannot grow.
-pub fn report_zones<'a>(tables: &'a Tables, found: &mut Found<'a>) -> Result<(), OutOfMemory>
-    ensures { OnOk result (Reports tables.now (of_codes (Code.E13 ∷ [])) found.old found.new) }
+pub(crate) fn has_other_zone<'a>(tables: &'a Tables) -> HasOtherZone<'a>
+    ensures { (n : ℕ) → ⟦<HasOtherZone<'a> as Rule>⟧.breaks result n
+        (record_at (records_in tables.now File.Agency) n)
+        ≡ has_other_zone tables.now n }
 {
     let zone = tables.column(File::Agency, "agency_timezone");
     let first = first_zone(tables, zone);
-    let mut rule = At(Code::E13, "agency_timezone", HasOtherZone { zone, first });
-    report_rows(tables, File::Agency, &mut rule, found)
+    HasOtherZone { zone, first }
 }
 
 // The zone of the first agency that has a readable one.

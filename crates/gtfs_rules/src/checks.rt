@@ -1,7 +1,7 @@
 ghost use Rattle.std.specs.Prelude.{◌≡◌, IfOk, OnOk};
 ghost use Rattle.gtfs_columns.specs.steps.FeedIds.{AreIdsOf};
 ghost use Rattle.gtfs_columns.specs.steps.Found.{Reports};
-ghost use Rattle.gtfs_rules.specs.steps.Parts.{every, in_files_and_fields, in_keys_and_references, in_periods_and_services, in_rows_alone, in_trips};
+ghost use Rattle.gtfs_rules.specs.steps.Parts.{every, in_files, in_periods_and_services, in_trips};
 ghost use Rattle.gtfs_columns.specs.Problems.{IsReport};
 ghost use Rattle.gtfs_columns.specs.steps.StopTypes.{AreStopTypes};
 ghost use Rattle.gtfs_trip_rules.specs.KeptOrder.{AreKeptOf};
@@ -9,10 +9,7 @@ ghost use Rattle.gtfs_trip_rules.specs.KeptOrder.{AreKeptOf};
 use crate::report::Report;
 use gtfs_columns::{FeedIds, Found, stop_types};
 use gtfs_field::OutOfMemory;
-use gtfs_row_rules::{
-    report_composite_keys, report_fields, report_files, report_headers, report_presence,
-    report_references, report_single_keys, report_spans, report_stop_kinds, report_zones,
-};
+use gtfs_row_rules::{report_files, report_headers, report_rows};
 use gtfs_table::Tables;
 use gtfs_trip_rules::{
     KeptStopTimes, report_counts, report_order, report_overlaps, report_services, report_stop_times,
@@ -67,52 +64,22 @@ fn report_parts<'a>(
     ensures reported { OnOk result (Reports tables.now every found.old found.new) }
     ensures kept { IfOk result (AreKeptOf tables.now) }
 {
-    report_files_and_fields(alloc, tables, found)?;
-    report_rows_alone(tables, found)?;
-    report_keys_and_references(alloc, tables, ids, types, found)?;
+    report_files_and_headers(tables, found)?;
+    report_rows(alloc, tables, ids, types, found)?;
     let stop_times = report_trips(alloc, tables, ids, types, found)?;
     report_periods_and_services(alloc, tables, found)?;
     Ok(stop_times)
 }
 
-// What is wrong with files, with their headers and with single fields.
-fn report_files_and_fields<'a>(
-    alloc: Global,
+// What is wrong with files and with their headers.
+fn report_files_and_headers<'a>(
     tables: &'a Tables,
     found: &mut Found<'a>,
 ) -> Result<(), OutOfMemory>
-    ensures { OnOk result (Reports tables.now in_files_and_fields found.old found.new) }
+    ensures { OnOk result (Reports tables.now in_files found.old found.new) }
 {
     report_files(tables, found)?;
-    report_headers(tables, found)?;
-    report_fields(alloc, tables, found)
-}
-
-// What is wrong with rows by themselves.
-fn report_rows_alone<'a>(tables: &'a Tables, found: &mut Found<'a>) -> Result<(), OutOfMemory>
-    ensures { OnOk result (Reports tables.now in_rows_alone found.old found.new) }
-{
-    report_presence(tables, found)?;
-    report_zones(tables, found)?;
-    report_spans(tables, found)
-}
-
-// What is wrong with the keys of rows, and with the rows that they name.
-fn report_keys_and_references<'a>(
-    alloc: Global,
-    tables: &'a Tables,
-    ids: &FeedIds<'a>,
-    types: &[Option<i64>],
-    found: &mut Found<'a>,
-) -> Result<(), OutOfMemory>
-    requires ids { AreIdsOf tables.now ids.now }
-    requires types { AreStopTypes tables.now types.now }
-    ensures { OnOk result (Reports tables.now in_keys_and_references found.old found.new) }
-{
-    report_single_keys(tables, ids, found)?;
-    report_composite_keys(alloc, tables, found)?;
-    report_references(tables, ids, found)?;
-    report_stop_kinds(tables, &ids.network.stops, types, found)
+    report_headers(tables, found)
 }
 
 // What is wrong with stop times and with the trips that they name.

@@ -1,7 +1,6 @@
 -- What is reported of a row: what is wrong with its length, and with its field in each kept column that the header names.
-use Rattle.std.specs.Prelude.{ℕ, ◌==◌, ◌&&◌, ◌||◌, Bool, nat_lt, if◌then◌else◌, List, [], ◌∷◌, bytes_eq, Option, Some}
+use Rattle.std.specs.Prelude.{ℕ, ◌==◌, ◌&&◌, Bool, nat_lt, if◌then◌else◌, List, [], ◌∷◌, bytes_eq, Option, Some}
 use Rattle.gtfs_table.specs.declared.file.File.{File}
-use Rattle.gtfs_table.specs.declared.file.File.TheVariants as file
 use Rattle.gtfs_columns.specs.declared.code.Code.{Code}
 use Rattle.gtfs_columns.specs.declared.code.Code.TheVariants as code
 use Rattle.gtfs_columns.specs.steps.Cells.{is_found, when}
@@ -28,9 +27,3 @@ is_in_row x n p = is_kept x p.file && (p.row == n)
 -- the problem is of the code that was found at this column
 abbrev pub is_found_at : Option Code → List ℕ → Problem → Bool
 is_found_at found name p = bytes_eq p.column name && is_found found p.code
-
--- fields of the files but for stop_times.txt
-abbrev pub in_fields : Problem → Bool
-in_fields p = in_file_of field_codes file.Agency p || in_file_of field_codes file.Stops p || in_file_of field_codes file.Routes p || in_file_of field_codes file.Trips p
-    || in_file_of field_codes file.Calendar p || in_file_of field_codes file.CalendarDates p || in_file_of field_codes file.Frequencies p
-    || in_file_of field_codes file.Transfers p

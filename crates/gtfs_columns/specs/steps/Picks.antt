@@ -1,10 +1,8 @@
 -- Which problems a step looks at: those of some codes, files or columns.
-use Rattle.std.specs.Prelude.{ℕ, ◌&&◌, ◌||◌, Bool, false, not, List, bytes_eq}
+use Rattle.std.specs.Prelude.{ℕ, ◌&&◌, Bool, false, List, bytes_eq}
 use Rattle.std.specs.List.{list_any}
 use Rattle.gtfs_table.specs.declared.file.File.{File}
-use Rattle.gtfs_table.specs.declared.file.File.TheVariants as file
 use Rattle.gtfs_columns.specs.declared.code.Code.{Code}
-use Rattle.gtfs_columns.specs.declared.code.Code.TheVariants as code
 use Rattle.gtfs_columns.specs.Problems.{FileName, kept, other, Problem, is_code}
 use Rattle.gtfs_columns.specs.Rows.{is_file}
 
@@ -24,16 +22,3 @@ in_file c x p = is_code p.code c && is_kept x p.file
 -- the problem is of this code, in this file and at this column
 abbrev pub at_column : Code → File → List ℕ → Problem → Bool
 at_column c x name p = is_code p.code c && is_kept x p.file && bytes_eq p.column name
-
--- E09 in a file whose key is one id
-abbrev pub in_single_keys : Problem → Bool
-in_single_keys p = in_file code.E09 file.Agency p || in_file code.E09 file.Stops p || in_file code.E09 file.Routes p || in_file code.E09 file.Trips p
-    || in_file code.E09 file.Calendar p
-
--- E09 in a file whose key has several parts, but for stop_times.txt
-abbrev pub in_composite_keys : Problem → Bool
-in_composite_keys p = in_file code.E09 file.CalendarDates p || in_file code.E09 file.Frequencies p || in_file code.E09 file.Transfers p
-
--- the problem is of this code and not in stop_times.txt
-abbrev pub elsewhere : Code → Problem → Bool
-elsewhere c p = is_code p.code c && not (is_kept file.StopTimes p.file)

@@ -1,0 +1,6 @@
+use Rattle.std.proofs.lemmas.Result.{on_ok_weaker}
+use Rattle.gtfs_columns.proofs.ReportingFacts.{reports_then}
+use Rattle.gtfs_rules.proofs.checks.report_files_and_headers.Goals as goal
+
+pub returns : goal.returns
+returns c = on_ok_weaker _ (reports_then c.args.tables.now _ _ _ _ _ c.in_ok-report_files.ensures) c.report_headers.ensures
