@@ -1,5 +1,5 @@
 -- What the content of sound parts says of a trip, by the rows and the numbers that the code reads.
-use Rattle.std.proofs.Common.{◌≡◌, ◌+◌, ◌-◌, ◌<◌, ◌∙◌, ℕ, suc, Bool, true, false, cond, List, [], ◌∷◌, length, map, filter, get_or, refl, sym, ap, arith, ◌&&◌}
+use Rattle.std.proofs.Common.{◌≡◌, ◌+◌, ◌<◌, ◌∙◌, ℕ, suc, Bool, true, false, cond, List, [], ◌∷◌, length, map, filter, get_or, refl, sym, ap, arith, ◌&&◌}
 use Rattle.std.specs.Prelude.{◌==◌, bytes_eq, unwrap_or}
 use Rattle.std.specs.List.{All, enumerate_from, list_any}
 use Rattle.std.proofs.lemmas.Bool.Decides.{nat_tests}
