@@ -9,14 +9,18 @@ use csv::{ByteRecord, ReaderBuilder};
 use gtfs_field::OutOfMemory;
 use std::alloc::Global;
 
-// The table of a file that has these bytes.
-pub(crate) fn read_table(alloc: Global, bytes: &[u8]) -> Result<FileTable, OutOfMemory>
+// The table of a file that has these bytes. It uses the memory of a table before it again.
+pub(crate) fn read_table(
+    alloc: Global,
+    bytes: &[u8],
+    before: FileTable,
+) -> Result<FileTable, OutOfMemory>
     ensures { IfOk result (λ table. table ≡ table_of_bytes (Some bytes.now)) }
 {
     match str::from_utf8(cut_marks(bytes)) {
         Ok(text) => Ok(FileTable {
             state: State::Read,
-            records: read_records(alloc, text)?,
+            records: read_records(alloc, text, before.into_records())?,
         }),
         Err(_) => Ok(FileTable {
             state: State::NotUtf8,
@@ -38,12 +42,12 @@ fn cut_marks(bytes: &[u8]) -> &[u8]
     left
 }
 
-// The records of a text.
-fn read_records(alloc: Global, text: &str) -> Result<Records, OutOfMemory>
+// The records of a text, in the memory of other ones.
+fn read_records(alloc: Global, text: &str, before: Records) -> Result<Records, OutOfMemory>
     requires { strip_bom text.now ≡ text.now }
     ensures { IfOk result (λ records. records ≡ records_of_text default_config text.now) }
 {
-    let mut records = Records::with_room(alloc, text.len())?;
+    let mut records = before.emptied(text.len())?;
     read_all(alloc, text, &mut records)?;
     Ok(records)
 }

@@ -37,14 +37,28 @@ impl Records {
         }
     }
 
-    // No record yet, and room for about as many as a file of this size has.
-    pub(crate) fn with_room(alloc: Global, size: usize) -> Result<Records, OutOfMemory>
+    // No record, and room in the memory of these for about as many as a file of this size has.
+    pub(crate) fn emptied(self, size: usize) -> Result<Records, OutOfMemory>
         ensures { IfOk result (λ records. records ≡ []) }
     {
+        let Records { short, long: _ } = self;
+        let alloc = short.allocator();
         Ok(Records {
-            short: ShortRecords::with_room(alloc, size)?,
+            short: short.emptied(size)?,
             long: LongRecords::new(alloc),
         })
+    }
+
+    pub(crate) fn allocator(&self) -> Global {
+        self.short.allocator()
+    }
+
+    // The memory of the bytes of short ones, with nothing in it.
+    pub(crate) fn into_room(self) -> Vec<u8>
+        ensures { result.items ≡ [] }
+    {
+        let Records { short, long: _ } = self;
+        short.into_room()
     }
 
     pub(crate) fn len(&self) -> usize

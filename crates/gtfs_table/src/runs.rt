@@ -39,14 +39,29 @@ impl Runs {
         }
     }
 
-    // No run yet, and room for this many runs that come to this many bytes.
-    pub(crate) fn with_room(alloc: Global, count: usize, size: usize) -> Result<Runs, OutOfMemory>
+    // No run, and room for this many runs that come to this many bytes, in the memory of these.
+    pub(crate) fn emptied(self, count: usize, size: usize) -> Result<Runs, OutOfMemory>
         ensures { IfOk result (λ runs. runs ≡ []) }
     {
+        let mut bytes = self.into_room();
+        bytes.reserve_exact(size)?;
+        let alloc = *bytes.allocator();
         Ok(Runs {
             starts: Offsets::with_room(alloc, count)?,
-            bytes: Vec::with_capacity(alloc, size)?,
+            bytes,
         })
+    }
+
+    // The memory of their bytes, with nothing in it.
+    pub(crate) fn into_room(self) -> Vec<u8>
+        ensures { result.items ≡ [] }
+    {
+        let Runs {
+            starts: _,
+            mut bytes,
+        } = self;
+        bytes.clear();
+        bytes
     }
 
     #[inline(always)]

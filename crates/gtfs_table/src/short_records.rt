@@ -43,15 +43,25 @@ impl ShortRecords {
         }
     }
 
-    // No record yet, and room for about as many as a file of this size has: a record has a mark for
-    // each comma and line end, and one more. Room that is not used is asked for and not touched.
-    pub(crate) fn with_room(alloc: Global, size: usize) -> Result<ShortRecords, OutOfMemory>
+    // No record, and room in the memory of these for about as many as a file of this size has: a
+    // record has a mark for each comma and line end, and one more. Room that is not used is asked
+    // for and not touched.
+    pub(crate) fn emptied(self, size: usize) -> Result<ShortRecords, OutOfMemory>
         ensures { IfOk result (λ records. records ≡ []) }
     {
+        let ShortRecords { runs } = self;
         let count = size / BYTES_OF_A_RECORD;
         Ok(ShortRecords {
-            runs: Runs::with_room(alloc, count, size.saturating_add(count))?,
+            runs: runs.emptied(count, size.saturating_add(count))?,
         })
+    }
+
+    // The memory of their bytes, with nothing in it.
+    pub(crate) fn into_room(self) -> Vec<u8>
+        ensures { result.items ≡ [] }
+    {
+        let ShortRecords { runs } = self;
+        runs.into_room()
     }
 
     #[inline(always)]

@@ -51,6 +51,16 @@ impl FileTable {
         }
     }
 
+    pub(crate) fn allocator(&self) -> Global {
+        self.records.allocator()
+    }
+
+    // Its records, for their memory.
+    pub(crate) fn into_records(self) -> Records {
+        let FileTable { state: _, records } = self;
+        records
+    }
+
     pub(crate) fn state(&self) -> State
         ensures { result ≡ table_state self.now }
     {

@@ -1,4 +1,4 @@
-ghost use Rattle.std.specs.Prelude.{All, ◌≡◌, ◌≢◌, ◌<◌, ◌≤◌, [], false, is_some, length, map, option_map, IfOk, IfErr, IfSome, IsErrOf, OnOk, OnErr};
+ghost use Rattle.std.specs.Prelude.{All, ◌≡◌, ◌≢◌, ◌<◌, ◌≤◌, [], false, is_some, length, map, option_map, string_bytes, IfOk, IfErr, IfSome, IsErrOf, OnOk, OnErr};
 ghost use Rattle.std.specs.Borrow.{sem};
 ghost use Rattle.gtfs_devices.specs.Device.{FailsAtLast, MakesCalls, MakesSomeCalls};
 ghost use Rattle.gtfs_table.specs.Ending.{EndsAtFile, EndsReading};
@@ -20,6 +20,7 @@ use gtfs_devices::{FolderFault, Folders};
 use gtfs_field::{OutOfMemory, Text};
 use std::alloc::Global;
 use std::marker::Model;
+use std::mem;
 
 /// The nine kept files of a GTFS Schedule dataset as tables,
 /// and the names of what else its folder holds.
@@ -145,10 +146,58 @@ impl Tables {
             (F.calls folders.old) (F.calls folders.new)) }
         ensures ends { IsErrOf result FolderFault.Read → FailsAtLast (F.calls folders.new) }
     {
+        Tables::empty(alloc).read_again(alloc, folders, dir)
+    }
+
+    /// Reads a folder as [`Tables::read`] does, in the memory of these tables, which are let go. So
+    /// less memory is touched for the first time where one folder is read after the other.
+    ///
+    /// # Errors
+    /// Those of [`Tables::read`].
+    pub fn read_again<F: Folders>(
+        self,
+        alloc: Global,
+        folders: &mut F,
+        dir: &str,
+    ) -> Result<Tables, FolderFault>
+        ensures reads { IfOk result (λ tables. HoldsDataset (F.held folders.old) dir.now tables) }
+        ensures within { OnOk result
+            (AllHoldWithin (F.limit folders.old) (F.held folders.old) dir.now kept_files) }
+        ensures refused { IfErr result
+            (λ fault. RefusesDataset fault (F.limit folders.old) (F.held folders.old) dir.now
+            (F.failure_count folders.old) (F.failure_count folders.new)) }
+        ensures unchanged { F.held folders.new ≡ F.held folders.old }
+        ensures grows { F.failure_count folders.old ≤ F.failure_count folders.new }
+        ensures no_failure { OnOk result
+            (F.failure_count folders.new ≡ F.failure_count folders.old) }
+        ensures counts_fault { IfErr result
+            (λ fault. CountsFault fault
+            (F.failure_count folders.old) (F.failure_count folders.new)) }
+        ensures same_limit { F.limit folders.new ≡ F.limit folders.old }
+        ensures called { OnOk result (MakesCalls 10 (F.calls folders.old) (F.calls folders.new)) }
+        ensures called_until { OnErr result
+            (MakesSomeCalls 10 (F.calls folders.old) (F.calls folders.new)) }
+        ensures stopped { IfErr result
+            (λ fault. EndsReading fault (F.limit folders.old) (F.held folders.old) dir.now
+            (F.failure_count folders.old) (F.failure_count folders.new)
+            (F.calls folders.old) (F.calls folders.new)) }
+        ensures ends { IsErrOf result FolderFault.Read → FailsAtLast (F.calls folders.new) }
+    {
+        let mut before = self;
         let names = folders.names(alloc, dir)?;
         let mut tables = Tables::of_names(other_names(alloc, names)?, alloc);
-        tables.read_files(alloc, folders, dir)?;
+        tables.read_files(alloc, folders, dir, &mut before)?;
         Ok(tables)
+    }
+
+    /// The memory of the fields of stop_times.txt, as a text with nothing in it.
+    pub fn into_room(self) -> String
+        ensures { string_bytes result ≡ [] }
+    {
+        let mut tables = self;
+        let bytes = tables.take(File::StopTimes).into_records().into_room();
+        let alloc = *bytes.allocator();
+        String::from_utf8(bytes).unwrap_or(String::new(alloc))
     }
 
     /// Whether a file is there, and is UTF-8. One that is not has no record.
@@ -301,6 +350,7 @@ impl Tables {
         alloc: Global,
         folders: &mut F,
         dir: &str,
+        before: &mut Tables,
     ) -> Result<(), FolderFault>
         ensures sets { OnOk result
             (SetsTables (F.held folders.old) dir.now kept_files self.old self.new) }
@@ -327,10 +377,17 @@ impl Tables {
         ensures ends { IsErrOf result FolderFault.Read → FailsAtLast (F.calls folders.new) }
     {
         for file in &File::ALL {
-            let table = read_file(alloc, folders, dir, *file)?;
+            let table = read_file(alloc, folders, dir, *file, before.take(*file))?;
             self.set(*file, table);
         }
         Ok(())
+    }
+
+    // Takes the table of a file away.
+    fn take(&mut self, file: File) -> FileTable {
+        let table = self.table_mut(file);
+        let alloc = table.allocator();
+        mem::replace(table, FileTable::absent(alloc))
     }
 
     fn set(&mut self, file: File, table: FileTable)
@@ -373,12 +430,14 @@ impl Tables {
     }
 }
 
-// The file's bytes are given up before the next file is read.
+// The file's bytes are given up before the next file is read. The table uses the memory of another
+// one again.
 fn read_file<F: Folders>(
     alloc: Global,
     folders: &mut F,
     dir: &str,
     file: File,
+    before: FileTable,
 ) -> Result<FileTable, FolderFault>
     ensures reads { IfOk result (λ table. HoldsTable (F.held folders.old) dir.now file table) }
     ensures within { OnOk result
@@ -396,7 +455,7 @@ fn read_file<F: Folders>(
     ensures ends { IsErrOf result FolderFault.Read → FailsAtLast (F.calls folders.new) }
 {
     match folders.read(alloc, dir, file.name())? {
-        Some(bytes) => Ok(reader::read_table(alloc, &bytes)?),
+        Some(bytes) => Ok(reader::read_table(alloc, &bytes, before)?),
         None => Ok(FileTable::absent(alloc)),
     }
 }

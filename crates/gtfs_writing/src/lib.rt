@@ -35,5 +35,5 @@ mod text_rows;
 mod transfers;
 mod trips;
 
-pub use file_texts::{file_text, has_longer_file};
+pub use file_texts::{file_text, file_text_in, has_longer_file};
 pub use files::tables;

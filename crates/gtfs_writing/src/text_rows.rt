@@ -25,17 +25,15 @@ impl Model for TextRows {
 }
 
 impl TextRows {
-    // None yet, and room for a text of this many bytes.
-    // Where that is refused, the text grows as it is made.
-    pub(crate) fn with_room(alloc: Global, bytes: usize) -> TextRows
+    // None yet, and room for a text of this many bytes, in the memory of another text.
+    // Where more is refused, the text grows as it is made.
+    pub(crate) fn in_room(room: String, bytes: usize) -> TextRows
         ensures { result ≡ [] }
     {
-        match String::with_capacity(alloc, bytes) {
-            Ok(text) => TextRows { text },
-            Err(_) => TextRows {
-                text: String::new(alloc),
-            },
-        }
+        let mut text = room;
+        text.clear();
+        let _ = text.reserve_exact(bytes);
+        TextRows { text }
     }
 
     pub(crate) fn into_text(self) -> String

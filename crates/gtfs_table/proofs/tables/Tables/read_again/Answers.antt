@@ -8,7 +8,7 @@ use Rattle.gtfs_devices.specs.declared.folders.FolderFault.TheVariants.{OutOfMem
 use Rattle.gtfs_table.proofs.EndingFacts.{ends-from, of-fault}
 use Rattle.gtfs_table.proofs.FolderFacts.{calls-then, on_err-always, sets-all}
 use Rattle.gtfs_table.proofs.OtherNames.{others-of}
-use Rattle.gtfs_table.proofs.tables.Tables.read.Goals as goal
+use Rattle.gtfs_table.proofs.tables.Tables.read_again.Goals as goal
 
 pub of_names-tables-requires : goal.of_names-tables-requires
 of_names-tables-requires g c =
@@ -74,3 +74,6 @@ returns-in_err-read_files-clause-counts_fault g c =
     let fault = c.in_err-read_files.field-0.0 in
     of-fault c.from_residual-in_err-read_files.result (λ e. CountsFault e before after) fault c.from_residual-in_err-read_files.ensures.1
     (subst (λ (n : ℕ). CountsFault fault n after) c.in_ok-names.ensures.no_failure c.in_err-read_files.ensures.counts_fault)
+
+pub returns-clause-within : goal.returns-clause-within
+returns-clause-within g c = rw (c.names.ensures.same_limit, c.names.ensures.unchanged) at c.in_ok-read_files.ensures.within

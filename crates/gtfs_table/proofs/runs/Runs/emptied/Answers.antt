@@ -1,7 +1,7 @@
 use Rattle.std.proofs.Common.{refl, arith}
 use Rattle.csv.specs.Records.{Rising}
 use Rattle.gtfs_table.specs.Parts.{parts}
-use Rattle.gtfs_table.proofs.runs.Runs.with_room.Goals as goal
+use Rattle.gtfs_table.proofs.runs.Runs.emptied.Goals as goal
 
 pub invariant_of-result : goal.invariant_of-result
 unfolding Rising

@@ -1,10 +1,10 @@
 use Rattle.std.proofs.Common.{refl}
 use Rattle.std.proofs.lemmas.List.Elements.{All-nil}
 use Rattle.gtfs_table.specs.Storage.{IsRun}
-use Rattle.gtfs_table.proofs.short_records.ShortRecords.with_room.Goals as goal
+use Rattle.gtfs_table.proofs.short_records.ShortRecords.emptied.Goals as goal
 
 pub invariant_of-result : goal.invariant_of-result
-invariant_of-result c = rw (c.in_ok-with_room.ensures) (All-nil IsRun)
+invariant_of-result c = rw (c.in_ok-emptied.ensures) (All-nil IsRun)
 
 pub returns : goal.returns
-returns c = rw (c.in_ok-with_room.ensures) refl
+returns c = rw (c.in_ok-emptied.ensures) refl
