@@ -1,6 +1,6 @@
 pub mod ByTextLemmas
 pub mod FolderLemmas
 mod HeldLemmas
+mod LendLemmas
 mod NameLemmas
-mod ReadLemmas
 mod SentLemmas

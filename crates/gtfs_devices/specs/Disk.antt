@@ -1,5 +1,5 @@
 -- Folders on a disk, which tell nothing of what they hold: what their answers rest on.
-use Rattle.std.specs.Prelude.{ℕ, length, List, [], ◌∷◌, ◌++◌, Option, None, Some, Result, Ok, Err, ◌≡◌, ◌<◌, ◌≤◌, ◌⊎◌, ⊤, IfSome}
+use Rattle.std.specs.Prelude.{ℕ, Bool, true, false, length, List, [], ◌∷◌, ◌++◌, Option, None, Some, Result, Ok, Err, ◌≡◌, ◌<◌, ◌≤◌, ◌⊎◌, ⊤, IfSome}
 use Rattle.std.specs.Io.KnownBytes.{Appends, Consumes}
 use Rattle.gtfs_devices.specs.Device.{counted, Calls}
 use Rattle.gtfs_devices.specs.Folder.{Store}
@@ -63,6 +63,13 @@ pub record ReadsOver {F : Type 0} (remaining : F → Option (List ℕ)) (limit :
 pub record IsAllOf {F : Type 0} (remaining : F → Option (List ℕ)) (bytes : List ℕ) : Type 0 where
   pub file : F
   pub all : IfSome (remaining file) (λ left. bytes ≡ left)
+
+-- what a reader took is all that a file had left, where it tells that, and no more than the limit; has_taken holds of all bytes that the reader took
+pub record TakesWhole (limit : ℕ) (left : Option (List ℕ)) (has_taken : List ℕ → Type 0) : Type 0 where
+  pub bytes : List ℕ
+  pub taken : has_taken bytes
+  pub within : length bytes ≤ limit
+  pub all : IfSome left (λ left. bytes ≡ left)
 
 -- some file took all these bytes; contents is what a file holds, where it tells that
 pub record TakesAll {F : Type 0} (contents : F → Option (List ℕ)) (bytes : List ℕ) : Type 0 where
@@ -150,6 +157,18 @@ pub record ReadsOpened {F : Type 0} (finds : List ℕ → Result Entry ErrorKind
 abbrev pub ReadsOrLacks : {F : Type 0} → (List ℕ → Result Entry ErrorKind → Type 0) → (List ℕ → Result Entry ErrorKind → Type 0) → (List ℕ → Result F ErrorKind → Type 0) → (F → Option (List ℕ)) → List ℕ → List ℕ → Option (List ℕ) → Type 0
 ReadsOrLacks finds looks opens remaining dir path None = LacksFile finds looks dir path
 ReadsOrLacks finds looks opens remaining dir path (Some bytes) = ReadsOpened finds opens remaining path bytes
+
+-- what a reader took is all that was left in a file which was just opened, and no more than the limit
+pub record LendsOpened {F : Type 0} (finds : List ℕ → Result Entry ErrorKind → Type 0) (opens : List ℕ → Result F ErrorKind → Type 0) (remaining : F → Option (List ℕ)) (path : List ℕ) (limit : ℕ) (has_taken : List ℕ → Type 0) : Type 0 where
+  pub bytes : List ℕ
+  pub taken : has_taken bytes
+  pub within : length bytes ≤ limit
+  pub reads : ReadsOpened finds opens remaining path bytes
+
+-- a folder's path was lent so, or the folder lacks it and nothing was taken
+abbrev pub LendsOrLacks : {F : Type 0} → (List ℕ → Result Entry ErrorKind → Type 0) → (List ℕ → Result Entry ErrorKind → Type 0) → (List ℕ → Result F ErrorKind → Type 0) → (F → Option (List ℕ)) → List ℕ → List ℕ → ℕ → (List ℕ → Type 0) → Bool → Type 0
+LendsOrLacks finds looks opens remaining dir path limit has_taken true = LendsOpened finds opens remaining path limit has_taken
+LendsOrLacks finds looks opens remaining dir path limit has_taken false = LacksFile finds looks dir path × has_taken []
 
 -- a file that was just opened gave more bytes than the limit
 pub record OverflowsOpened {F : Type 0} (finds : List ℕ → Result Entry ErrorKind → Type 0) (opens : List ℕ → Result F ErrorKind → Type 0) (remaining : F → Option (List ℕ)) (path : List ℕ) (limit : ℕ) : Type 0 where

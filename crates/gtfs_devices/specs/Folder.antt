@@ -1,7 +1,7 @@
 -- Folders of files: what they hold, and what their calls answer.
 -- GTFS Schedule Reference, "Dataset Files": a dataset lies in one folder, each file under its own name.
 -- The contents of a device may be unknown (None); then the words below that speak of them say nothing.
-use Rattle.std.specs.Prelude.{ℕ, IsTrue, is_some, length, List, Option, Some, None, option_map, unwrap_or, IsSorted, ◌≡◌, ◌≢◌, ◌<◌, ⊤}
+use Rattle.std.specs.Prelude.{ℕ, Bool, true, false, IsTrue, is_some, length, List, [], Option, Some, None, option_map, unwrap_or, IsSorted, ◌≡◌, ◌≢◌, ◌<◌, ◌≤◌, ⊤}
 use Rattle.std.specs.FinMap as map
 use Rattle.gtfs_field.specs.TextOrder.{text_cmp}
 use Rattle.gtfs_devices.specs.Device.{Rises}
@@ -51,6 +51,18 @@ Lists (Some store) dir names = names_in store dir ≡ Some names
 abbrev pub Finds : Option Store → List ℕ → List ℕ → Option (List ℕ) → Type 0
 Finds None dir name file = ⊤
 Finds (Some store) dir name file = file_in store dir name ≡ Some file
+
+-- a folder's file of no more than the limit is all that was taken; has_taken holds of all bytes that a reader took
+pub record LendsFile (held : Option Store) (limit : ℕ) (dir name : List ℕ) (has_taken : List ℕ → Type 0) : Type 0 where
+  pub bytes : List ℕ
+  pub finds : Finds held dir name (Some bytes)
+  pub within : length bytes ≤ limit
+  pub taken : has_taken bytes
+
+-- a folder's file was lent to a reader, or was not there and nothing was taken
+abbrev pub Lends : Option Store → ℕ → List ℕ → List ℕ → (List ℕ → Type 0) → Bool → Type 0
+Lends held limit dir name has_taken true = LendsFile held limit dir name has_taken
+Lends held limit dir name has_taken false = Finds held dir name None × has_taken []
 
 -- there is no such folder
 abbrev pub LacksFolder : Option Store → List ℕ → Type 0

@@ -1,8 +1,9 @@
-ghost use Rattle.std.specs.Prelude.{◌≡◌, ◌≤◌, IsTrue, string_bytes, option_map, vec_len, IfOk, IfErr, IfSome, IsErrOf, OnOk};
-ghost use Rattle.gtfs_devices.specs.Disk.{path_in, FillsMade, IsWritable, LacksDir, OpensOrLacks, OverflowsOpened, ReadsOrLacks, RefusesFile, RefusesOpen, RefusesStore};
+ghost use Rattle.std.specs.Prelude.{◌≡◌, ◌≤◌, IsTrue, [], string_bytes, option_map, vec_len, IfOk, IfErr, IfSome, IsErrOf, OnOk};
+ghost use Rattle.gtfs_devices.specs.Disk.{path_in, FillsMade, IsWritable, LacksDir, LendsOrLacks, OpensOrLacks, OverflowsOpened, ReadsOrLacks, RefusesFile, RefusesOpen, RefusesStore};
 
+use crate::file_reader::FileReader;
 use crate::folders::FolderFault;
-use crate::read_within::read_within;
+use crate::read_within::{lend_within, read_within};
 use crate::system::{Entry, System};
 use crate::write_whole::write_whole;
 use gtfs_field::OutOfMemory;
@@ -36,6 +37,37 @@ pub(crate) fn read_file<S: System>(
             Ok(Some(read_within(alloc, &mut file, limit, size)?))
         }
         None => Ok(None),
+    }
+}
+
+// Lends a folder's file to a reader, and answers whether the folder has an entry of that name.
+// How long a file is tells its reading.
+pub(crate) fn lend_file<S: System, R: FileReader>(
+    system: &S,
+    alloc: Global,
+    dir: &str,
+    name: &str,
+    limit: u64,
+    reader: &mut R,
+) -> Result<bool, FolderFault>
+    requires { R.has_taken reader.old [] }
+    ensures whole { IfOk result
+        (LendsOrLacks (S.finds system.now) (S.looks system.now) (S.opens system.now)
+        S.File.remaining dir.now (path_in dir.now name.now) limit (R.has_taken reader.new)) }
+    ensures large { IsErrOf result FolderFault.TooLarge
+        → OverflowsOpened (S.finds system.now) (S.opens system.now) S.File.remaining
+        (path_in dir.now name.now) limit }
+    ensures no_folder { IsErrOf result FolderFault.NoFolder
+        → LacksDir (S.finds system.now) (S.looks system.now) dir.now }
+    ensures refused { IfErr result RefusesFile }
+{
+    match open_file(system, alloc, dir, name)? {
+        Some(mut file) => {
+            reader.expect(size_hint(&file, limit))?;
+            lend_within(&mut file, limit, reader)?;
+            Ok(true)
+        }
+        None => Ok(false),
     }
 }
 

@@ -1,10 +1,11 @@
-ghost use Rattle.std.specs.Prelude.{◌≡◌, ◌≤◌, option_map, vec_len, IfOk, IfErr, IfSome, IsErrOf, OnOk, MatchResult};
+ghost use Rattle.std.specs.Prelude.{◌≡◌, ◌≤◌, ℕ, List, [], true, option_map, vec_len, IfOk, IfErr, IfSome, IsErrOf, OnOk, MatchResult};
 ghost use Rattle.gtfs_devices.specs.Device.{FailsAtLast, MakesCalls};
-ghost use Rattle.gtfs_devices.specs.Folder.{CountsFault, IsByBytes, Lists, Finds, Writes, RefusesNames, RefusesRead, RefusesWrite};
+ghost use Rattle.gtfs_devices.specs.Folder.{CountsFault, IsByBytes, Lists, Finds, Lends, Writes, RefusesNames, RefusesRead, RefusesWrite};
 ghost use Rattle.gtfs_devices.specs.Disk.{told, calls, after_fault, IsAllOf, TakesAll, ReadsOver};
 
-use crate::disk_files::{read_file, write_file};
+use crate::disk_files::{lend_file, read_file, write_file};
 use crate::disk_names::list;
+use crate::file_reader::FileReader;
 use crate::folders::{FolderFault, Folders};
 use gtfs_field::Text;
 use std::alloc::Global;
@@ -25,8 +26,8 @@ const ENTRY_LIMIT: usize = 1_000_000;
 /// to 1,073,741,824 bytes are read.
 ///
 /// What is neither a file, a link to one, nor a device, as a named pipe, is never opened: `read`
-/// fails with Read, and `write` with Write. A path is asked for what it leads to and then opened,
-/// so what takes its place between the two is opened.
+/// and `lend` fail with Read, and `write` with Write. A path is asked for what it leads to and then
+/// opened, so what takes its place between the two is opened.
 #[derive(Drop)]
 pub struct DiskFolders<'a, R: Files + Alloc + Clone + Drop> {
     rt: &'a R,
@@ -150,6 +151,45 @@ impl<'a, R: Files + Alloc + Clone + Drop> Folders for DiskFolders<'a, R> {
     {
         match read_file(self.rt, alloc, dir, name, self.limit) {
             Ok(file) => Ok(file),
+            Err(fault) => Err(self.count(fault)),
+        }
+    }
+
+    /// Lends the file as the system reads it, chunk after chunk, so that it is never whole in
+    /// memory. It counts a failure exactly where it answers Read.
+    fn lend<T: FileReader>(
+        &mut self,
+        alloc: Global,
+        dir: &str,
+        name: &str,
+        reader: &mut T,
+    ) -> Result<bool, FolderFault>
+        requires { T.has_taken reader.old [] }
+        ensures lends { IfOk result
+            (Lends (told self.old) self.old.limit dir.now name.now (T.has_taken reader.new)) }
+        ensures refused { IfErr result
+            (λ fault. RefusesRead fault self.old.limit (told self.old) dir.now name.now
+            self.old.failures self.new.failures) }
+        ensures unchanged { told self.new ≡ told self.old }
+        ensures grows { self.old.failures ≤ self.new.failures }
+        ensures no_failure { OnOk result (self.new.failures ≡ self.old.failures) }
+        ensures counts_fault { IfErr result
+            (λ fault. CountsFault fault self.old.failures self.new.failures) }
+        ensures same_limit { self.new.limit ≡ self.old.limit }
+        ensures called { MakesCalls 1 (calls self.old) (calls self.new) }
+        ensures ends { IsErrOf result FolderFault.Read → FailsAtLast (calls self.new) }
+
+        ensures whole { IfOk result (λ found. found ≡ true
+            → (bytes : List ℕ) × T.has_taken reader.new bytes
+            × IsAllOf R.File.remaining bytes) }
+        ensures large { IsErrOf result FolderFault.TooLarge
+            → ReadsOver R.File.remaining self.old.limit }
+        ensures counted { MatchResult result
+            (λ _. self.new ≡ self.old)
+            (λ fault. self.new ≡ after_fault fault self.old) }
+    {
+        match lend_file(self.rt, alloc, dir, name, self.limit, reader) {
+            Ok(found) => Ok(found),
             Err(fault) => Err(self.count(fault)),
         }
     }

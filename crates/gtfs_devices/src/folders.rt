@@ -1,7 +1,8 @@
-ghost use Rattle.std.specs.Prelude.{◌≡◌, ◌≤◌, ℕ, Option, None, option_map, vec_len, IfOk, IfErr, IfSome, IsErrOf, OnOk};
+ghost use Rattle.std.specs.Prelude.{◌≡◌, ◌≤◌, ℕ, [], Option, None, option_map, vec_len, IfOk, IfErr, IfSome, IsErrOf, OnOk};
 ghost use Rattle.gtfs_devices.specs.Device.{Calls, FailsAtLast, MakesCalls};
-ghost use Rattle.gtfs_devices.specs.Folder.{Store, CountsFault, IsByBytes, Lists, Finds, Writes, RefusesNames, RefusesRead, RefusesWrite};
+ghost use Rattle.gtfs_devices.specs.Folder.{Store, CountsFault, IsByBytes, Lists, Finds, Lends, Writes, RefusesNames, RefusesRead, RefusesWrite};
 
+use crate::file_reader::FileReader;
 use gtfs_field::{OutOfMemory, Text};
 use std::alloc::{AllocFailed, Global};
 use thiserror::Error;
@@ -108,6 +109,44 @@ pub trait Folders {
         ensures same_limit { limit self.new ≡ limit self.old }
         ensures called { MakesCalls 1 (calls self.old) (calls self.new) }
         ensures ends { IsErrOf result FolderFault.Read → FailsAtLast (calls self.new) };
+
+    /// Lends the bytes of a folder's file to a reader, piece after piece, and answers whether the
+    /// folder has such a file.
+    ///
+    /// # Errors
+    /// Those of [`Folders::read`]; `OutOfMemory` also where the reader was refused memory. What the
+    /// reader has taken is then open.
+    fn lend<R: FileReader>(
+        &mut self,
+        alloc: Global,
+        dir: &str,
+        name: &str,
+        reader: &mut R,
+    ) -> Result<bool, FolderFault>
+        requires { R.has_taken reader.old [] }
+        ensures lends { IfOk result
+            (Lends (held self.old) (limit self.old) dir.now name.now (R.has_taken reader.new)) }
+        ensures refused { IfErr result
+            (λ fault. RefusesRead fault (limit self.old) (held self.old) dir.now name.now
+            (failure_count self.old) (failure_count self.new)) }
+        ensures unchanged { held self.new ≡ held self.old }
+        ensures grows { failure_count self.old ≤ failure_count self.new }
+        ensures no_failure { OnOk result (failure_count self.new ≡ failure_count self.old) }
+        ensures counts_fault { IfErr result
+            (λ fault. CountsFault fault (failure_count self.old) (failure_count self.new)) }
+        ensures same_limit { limit self.new ≡ limit self.old }
+        ensures called { MakesCalls 1 (calls self.old) (calls self.new) }
+        ensures ends { IsErrOf result FolderFault.Read → FailsAtLast (calls self.new) }
+    {
+        match self.read(alloc, dir, name)? {
+            Some(bytes) => {
+                reader.expect(bytes.len())?;
+                reader.take(&bytes)?;
+                Ok(true)
+            }
+            None => Ok(false),
+        }
+    }
 
     /// Makes these bytes the whole of a folder's file. Makes the folder where it is absent, and
     /// takes the place of a file that was there. It judges no limit.

@@ -2,8 +2,9 @@
 //!
 //! [`Folders`] is any device that holds folders of files: [`DiskFolders`] over a file
 //! system, and [`MemoryFolders`] in memory, where a chosen call can be made to fail. It
-//! lists the names of a folder, reads a file up to a limit, and writes a file whole.
-//! [`FolderFault`] says why a call was refused.
+//! lists the names of a folder, reads a file up to a limit, lends one to a [`FileReader`] that
+//! takes it piece after piece, and writes a file whole. [`FolderFault`] says why a call was
+//! refused.
 //!
 //! [`Out`] is any device that takes text: [`WriteOut`] over a writer, as a terminal, and
 //! [`MemoryOut`] in memory, with an end to its room. [`write_text`] sends a text out whole, or
@@ -29,6 +30,7 @@
 mod disk_files;
 mod disk_folders;
 mod disk_names;
+mod file_reader;
 mod folders;
 mod memory_files;
 mod memory_folders;
@@ -41,6 +43,7 @@ mod write_out;
 mod write_whole;
 
 pub use disk_folders::DiskFolders;
+pub use file_reader::FileReader;
 pub use folders::{FolderFault, Folders};
 pub use memory_folders::MemoryFolders;
 pub use memory_out::MemoryOut;

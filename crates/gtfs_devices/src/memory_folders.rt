@@ -14,8 +14,8 @@ use std::marker::Model;
 /// Folders in memory, with a limit on the files that are read and, where one is wanted,
 /// a call that fails.
 ///
-/// Each call of `names`, `read` and `write` is counted. The call with the given number fails, with
-/// Read or Write, and no other call does.
+/// Each call of `names`, `read`, `lend` and `write` is counted. The call with the given number
+/// fails, with Read or Write, and no other call does.
 #[derive(Debug, Drop)]
 pub struct MemoryFolders {
     alloc: Global,

@@ -9,6 +9,8 @@ mod MarkedFacts
 mod NearFacts
 mod OtherNames
 pub mod PartFacts
+pub mod PieceFacts
+pub mod ProgressFacts
 pub mod ReadSteps
 pub mod RowFacts
 mod RunFacts

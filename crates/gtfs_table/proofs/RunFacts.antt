@@ -1,10 +1,10 @@
--- Runs of bytes in one buffer: one more, and the last one away.
-use Rattle.std.proofs.Common.{◌≡◌, ◌<◌, ◌≤◌, ◌+◌, ◌-◌, ◌∷◌, ◌++◌, ◌∙◌, [], ℕ, zero, suc, List, length, take, drop, get_or, refl, ap, arith, length-append}
-use Rattle.std.proofs.lemmas.List.{drop-take, length-take-le, take-take}
+-- Runs of bytes in one buffer: one more, and only the first ones. The latter also of other parts of a list.
+use Rattle.std.proofs.Common.{◌≡◌, ◌<◌, ◌≤◌, ◌+◌, ◌-◌, ◌∷◌, ◌++◌, ◌∙◌, [], ℕ, zero, suc, List, length, take, drop, get_or, refl, sym, ap, arith, length-append}
+use Rattle.std.proofs.lemmas.List.{drop-take, length-take-le, take-take, take_all}
 use Rattle.csv.specs.Records.{Rising}
 use Rattle.csv.proofs.RecordFacts.{field-bounds, rising-first, rising-prefix}
 use Rattle.gtfs_table.specs.Parts.{parts}
-use Rattle.gtfs_table.proofs.PartFacts.{parts-push}
+use Rattle.gtfs_table.proofs.PartFacts.{count-parts, parts-push}
 use Rattle.gtfs_table.proofs.StoreFacts.{rising-push}
 
 -- a part that lies before a cut
@@ -40,9 +40,9 @@ parts-first {X = X} s (e ∷ f ∷ rest) xs (suc (suc k)) r lt =
     rw here (ap (λ (p : List (List X)). take (f - e) (drop e xs) ∷ p) (parts-first e (f ∷ rest) xs (suc k) r.1 (omega (arith, lt))))
 
 -- runs that are seen as this list
-pub record AreRuns (starts bytes : List ℕ) (runs : List (List ℕ)) : Type 0 where
-  pub rising : Rising 0 starts (length bytes)
-  pub value : parts starts bytes ≡ runs
+pub record AreRuns {X : Type 0} (starts : List ℕ) (items : List X) (runs : List (List X)) : Type 0 where
+  pub rising : Rising 0 starts (length items)
+  pub value : parts starts items ≡ runs
 
 pub run-push : (starts bytes new_starts new_bytes run : List ℕ) (runs : List (List ℕ)) → parts starts bytes ≡ runs → Rising 0 starts (length bytes)
     → new_starts ≡ starts ++ length bytes ∷ [] → new_bytes ≡ bytes ++ run → AreRuns new_starts new_bytes (runs ++ run ∷ [])
@@ -52,13 +52,17 @@ run-push starts bytes new_starts new_bytes run runs e r s b =
       value = parts-push 0 starts bytes run r ∙ rw e refl;
     })
 
--- the last one goes
-pub run-pop : (starts bytes new_starts new_bytes : List ℕ) (runs : List (List ℕ)) (k start : ℕ) → parts starts bytes ≡ runs → Rising 0 starts (length bytes) → k < length starts
-    → start ≡ get_or starts k 0 → new_starts ≡ take k starts → new_bytes ≡ take start bytes → AreRuns new_starts new_bytes (take k runs)
-run-pop starts bytes new_starts new_bytes runs k start e r lt at s b =
-    let bounds = field-bounds 0 starts (length bytes) k r lt in
-    let size : length (take (get_or starts k 0) bytes) ≡ get_or starts k 0 = length-take-le (get_or starts k 0) bytes bounds.1 in
+-- the first ones stay
+pub runs-first : {X : Type 0} (starts new_starts : List ℕ) (items new_items : List X) (runs : List (List X)) (k start : ℕ) → parts starts items ≡ runs → Rising 0 starts (length items) → k < length starts
+    → start ≡ get_or starts k 0 → new_starts ≡ take k starts → new_items ≡ take start items → AreRuns new_starts new_items (take k runs)
+runs-first {X = X} starts new_starts items new_items runs k start e r lt at s b =
+    let bounds = field-bounds 0 starts (length items) k r lt in
+    let size : length (take (get_or starts k 0) items) ≡ get_or starts k 0 = length-take-le (get_or starts k 0) items bounds.1 in
     rw (s, b, at) (record {
-      rising = rw size (rising-prefix 0 starts (length bytes) k (get_or starts k 0) r bounds.0 (omega (arith, lt)));
-      value = parts-first 0 starts bytes k r lt ∙ ap (λ (t : List (List ℕ)). take k t) e;
+      rising = rw size (rising-prefix 0 starts (length items) k (get_or starts k 0) r bounds.0 (omega (arith, lt)));
+      value = parts-first 0 starts items k r lt ∙ ap (λ (t : List (List X)). take k t) e;
     })
+
+-- all of them do
+pub runs-all : {X : Type 0} (starts : List ℕ) (items : List X) (runs : List (List X)) (k : ℕ) → parts starts items ≡ runs → length starts ≤ k → runs ≡ take k runs
+runs-all starts items runs k e le = sym (take_all k runs (omega (arith, le, count-parts starts items runs e)))

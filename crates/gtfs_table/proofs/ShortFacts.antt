@@ -1,5 +1,5 @@
 -- Lists of short records, and of long ones after them.
-use Rattle.std.proofs.Common.{◌≡◌, ◌<◌, ◌∷◌, ◌++◌, ◌∙◌, [], ℕ, List, length, take, get_or, map, refl, sym, ap, arith}
+use Rattle.std.proofs.Common.{◌≡◌, ◌<◌, ◌-◌, ◌∷◌, ◌++◌, ◌∙◌, [], ℕ, zero, suc, List, length, take, get_or, map, refl, sym, ap, arith}
 use Rattle.std.specs.List.{All}
 use Rattle.std.proofs.lemmas.List.{get_or-map, length-map, map-append, take-map}
 use Rattle.std.proofs.lemmas.List.Elements.{All-get_or, All-map, All-push, All-take, All-weaker}
@@ -48,6 +48,16 @@ short-take runs new records k e all n =
     })
 
 -- ---- short records, and then long ones
+
+-- the first of both
+pub take-both : (short long : List (List (List ℕ))) (count more : ℕ) → more ≡ count - length short → take count (short ++ long) ≡ take count short ++ take more long
+take-both [] long count more e = let is : more ≡ count = omega (arith, e) in rw is (nothing count long)
+  where
+    nothing : (n : ℕ) (xs : List (List (List ℕ))) → take n xs ≡ take n [] ++ take n xs
+    nothing zero xs = refl
+    nothing (suc n) xs = refl
+take-both (r ∷ short) long zero more e = let is : more ≡ 0 = omega (arith, e) in rw is refl
+take-both (r ∷ short) long (suc count) more e = ap (λ (t : List (List (List ℕ))). r ∷ t) (take-both short long count more (omega (arith, e)))
 
 add-after : (short long : List (List (List ℕ))) (field : List ℕ) → 0 < length long → short ++ add_to_last long field ≡ add_to_last (short ++ long) field
 unfolding add_to_last

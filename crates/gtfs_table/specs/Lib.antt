@@ -4,6 +4,8 @@ pub mod Ending
 pub mod Files
 pub mod Lent
 pub mod Parts
+pub mod Pieces
+pub mod Progress
 pub mod Reading
 pub mod Rows
 pub mod Storage

@@ -4,7 +4,8 @@
 //! Files"). [`Folders`] is any device that holds folders. [`Tables`] are the nine kept files of a
 //! folder ([`File`]) as records of fields, with the names of what else it holds:
 //!
-//! - [`Tables::read`] reads a folder, file after file. [`Tables::state`] tells whether a file is
+//! - [`Tables::read`] reads a folder, file after file, and each file piece after piece, so that its
+//!   bytes are never whole in memory beside its records. [`Tables::state`] tells whether a file is
 //!   there and is UTF-8 ([`State`]).
 //! - [`Tables::value`] is the value of a column in a row, and [`Tables::column`] with
 //!   [`Tables::field`] the same for one column in many rows. Row 1 is the header.
@@ -47,6 +48,7 @@ mod runs;
 mod short_records;
 mod state;
 mod table;
+mod table_reader;
 mod tables;
 mod texts;
 mod writer;
@@ -54,8 +56,8 @@ mod writer;
 pub use blanks::plain_character;
 pub use file::File;
 pub use gtfs_devices::{
-    DiskFolders, Failed, FolderFault, Folders, MemoryFolders, MemoryOut, Out, OutFault, WriteOut,
-    write_text,
+    DiskFolders, Failed, FileReader, FolderFault, Folders, MemoryFolders, MemoryOut, Out, OutFault,
+    WriteOut, write_text,
 };
 pub use record::Record;
 pub use rows::Rows;

@@ -1,4 +1,4 @@
-ghost use Rattle.std.specs.Prelude.{All, ◌≡◌, ◌<◌, ◌^◌, ◌++◌, ◌∷◌, [], length, OnOk, OnErr, slice_index_or};
+ghost use Rattle.std.specs.Prelude.{All, ◌≡◌, ◌<◌, ◌^◌, ◌++◌, ◌∷◌, [], length, take, OnOk, OnErr, slice_index_or};
 ghost use Rattle.csv.specs.Records.{AllText, IsRecord, fields_of};
 ghost use Rattle.gtfs_table.specs.Parts.{add_to_last};
 
@@ -117,6 +117,17 @@ impl LongRecords {
             self.starts.truncate(count);
         }
         pushed
+    }
+
+    // Keeps the first records, as many as `count`.
+    pub(crate) fn truncate(&mut self, count: usize)
+        ensures { self.new ≡ take count self.old }
+    {
+        if count < self.starts.len() {
+            let (start, _) = self.starts.span(count, self.fields.len());
+            self.starts.truncate(count);
+            self.fields.truncate(start);
+        }
     }
 
     // Adds a field to the last record. A refusal leaves the records as they were.

@@ -1,34 +1,17 @@
-ghost use Rattle.std.specs.Prelude.{◌≡◌, [], Some, IfOk, OnOk};
+ghost use Rattle.std.specs.Prelude.{◌≡◌, ◌++◌, OnOk};
 ghost use Rattle.csv.specs.Reading.{default_config, records as records_of_text, strip_bom};
-ghost use Rattle.gtfs_table.specs.Tables.{table_of_bytes, without_marks};
+ghost use Rattle.gtfs_table.specs.Tables.{without_marks};
 
 use crate::records::Records;
-use crate::state::State;
-use crate::table::FileTable;
 use csv::{ByteRecord, ReaderBuilder};
 use gtfs_field::OutOfMemory;
 use std::alloc::Global;
 
-// The table of a file that has these bytes.
-pub(crate) fn read_table(alloc: Global, bytes: &[u8]) -> Result<FileTable, OutOfMemory>
-    ensures { IfOk result (λ table. table ≡ table_of_bytes (Some bytes.now)) }
-{
-    match str::from_utf8(cut_marks(bytes)) {
-        Ok(text) => Ok(FileTable {
-            state: State::Read,
-            records: read_records(alloc, text)?,
-        }),
-        Err(_) => Ok(FileTable {
-            state: State::NotUtf8,
-            records: Records::new(alloc),
-        }),
-    }
-}
-
 // U+FEFF in UTF-8.
 const MARK: [u8; 3] = [0xEF, 0xBB, 0xBF];
 
-fn cut_marks(bytes: &[u8]) -> &[u8]
+// The bytes behind the byte order marks at their start.
+pub(crate) fn cut_marks(bytes: &[u8]) -> &[u8]
     ensures { result.now ≡ without_marks bytes.now }
 {
     let mut left = bytes;
@@ -38,21 +21,11 @@ fn cut_marks(bytes: &[u8]) -> &[u8]
     left
 }
 
-// The records of a text.
-fn read_records(alloc: Global, text: &str) -> Result<Records, OutOfMemory>
+// Adds the records of a text. In memory it gives `csv` no error but want of memory.
+pub(crate) fn read_all(alloc: Global, text: &str, records: &mut Records) -> Result<(), OutOfMemory>
     requires { strip_bom text.now ≡ text.now }
-    ensures { IfOk result (λ records. records ≡ records_of_text default_config text.now) }
-{
-    let mut records = Records::with_room(alloc, text.len())?;
-    read_all(alloc, text, &mut records)?;
-    Ok(records)
-}
-
-// A text in memory gives `csv` no error but want of memory.
-fn read_all(alloc: Global, text: &str, records: &mut Records) -> Result<(), OutOfMemory>
-    requires marks { strip_bom text.now ≡ text.now }
-    requires none { records.old ≡ [] }
-    ensures { OnOk result (records.new ≡ records_of_text default_config text.now) }
+    ensures { OnOk result
+        (records.new ≡ records.old ++ records_of_text default_config text.now) }
 {
     let mut reader = ReaderBuilder::new()
         .has_headers(false)

@@ -1,4 +1,4 @@
-ghost use Rattle.std.specs.Prelude.{All, ◌≡◌, ◌<◌, ◌+◌, ◌++◌, ◌∷◌, [], length, IfOk, OnOk, OnErr};
+ghost use Rattle.std.specs.Prelude.{All, ◌≡◌, ◌<◌, ◌+◌, ◌++◌, ◌∷◌, [], length, take, IfOk, OnOk, OnErr};
 ghost use Rattle.csv.specs.Records.{AllText, IsRecord, fields_of};
 ghost use Rattle.gtfs_table.specs.Parts.{add_to_last};
 ghost use Rattle.gtfs_table.specs.Tables.{record_at};
@@ -111,6 +111,15 @@ impl Records {
         self.long.push_row(row)
     }
 
+    // Keeps the first records, as many as `count`.
+    pub(crate) fn truncate(&mut self, count: usize)
+        ensures { self.new ≡ take count self.old }
+    {
+        let short = self.short.len();
+        self.short.truncate(count);
+        self.long.truncate(count.saturating_sub(short));
+    }
+
     // Adds a field to the last record. A refusal leaves the records as they were.
     pub(crate) fn push_field(&mut self, field: &str) -> Result<(), OutOfMemory>
         requires { 0 < length self.old }
@@ -133,9 +142,10 @@ fn make_last_long(short: &mut ShortRecords, long: &mut LongRecords) -> Result<()
     }
     short.are_filled_with_text();
     let mut row = ByteRecord::new(short.allocator());
-    let last = Record::of_short(short.get(short.len() - 1), long.fields());
+    let count = short.len() - 1;
+    let last = Record::of_short(short.get(count), long.fields());
     copy_record(&last, &mut row)?;
     long.push_row(&row)?;
-    short.pop();
+    short.truncate(count);
     Ok(())
 }

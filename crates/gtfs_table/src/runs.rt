@@ -95,15 +95,15 @@ impl Runs {
         Ok(())
     }
 
-    // Takes the last run away.
-    pub(crate) fn pop(&mut self)
-        requires { 0 < length self.old }
-        ensures { self.new ≡ take (length self.old - 1) self.old }
+    // Keeps the first runs, as many as `count`.
+    pub(crate) fn truncate(&mut self, count: usize)
+        ensures { self.new ≡ take count self.old }
     {
-        let last = self.starts.len() - 1;
-        let (start, _) = self.starts.span(last, self.bytes.len());
-        self.starts.truncate(last);
-        self.bytes.truncate(start);
+        if count < self.starts.len() {
+            let (start, _) = self.starts.span(count, self.bytes.len());
+            self.starts.truncate(count);
+            self.bytes.truncate(start);
+        }
     }
 }
 

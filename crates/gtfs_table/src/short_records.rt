@@ -107,11 +107,10 @@ impl ShortRecords {
         Ok(true)
     }
 
-    // Takes the last record away.
-    pub(crate) fn pop(&mut self)
-        requires { 0 < length self.old }
-        ensures { self.new ≡ take (length self.old - 1) self.old }
+    // Keeps the first records, as many as `count`.
+    pub(crate) fn truncate(&mut self, count: usize)
+        ensures { self.new ≡ take count self.old }
     {
-        self.runs.pop();
+        self.runs.truncate(count);
     }
 }

@@ -11,11 +11,11 @@ ghost use Rattle.gtfs_table.specs.Tables.{column_of, empty_dataset, field_cut, r
 ghost use Rattle.gtfs_table.specs.Written.{text_of_table, ReadsBack};
 
 use crate::file::File;
-use crate::reader;
 use crate::record::Record;
 use crate::rows::Rows;
 use crate::state::State;
 use crate::table::FileTable;
+use crate::table_reader::TableReader;
 use gtfs_devices::{FolderFault, Folders};
 use gtfs_field::{OutOfMemory, Text};
 use std::alloc::Global;
@@ -373,7 +373,7 @@ impl Tables {
     }
 }
 
-// The file's bytes are given up before the next file is read.
+// The file is taken piece after piece, so that its bytes are never whole in memory.
 fn read_file<F: Folders>(
     alloc: Global,
     folders: &mut F,
@@ -395,9 +395,11 @@ fn read_file<F: Folders>(
     ensures called { MakesCalls 1 (F.calls folders.old) (F.calls folders.new) }
     ensures ends { IsErrOf result FolderFault.Read → FailsAtLast (F.calls folders.new) }
 {
-    match folders.read(alloc, dir, file.name())? {
-        Some(bytes) => Ok(reader::read_table(alloc, &bytes)?),
-        None => Ok(FileTable::absent(alloc)),
+    let mut reader = TableReader::new(alloc);
+    if folders.lend(alloc, dir, file.name(), &mut reader)? {
+        Ok(reader.into_table()?)
+    } else {
+        Ok(FileTable::absent(alloc))
     }
 }
 

@@ -107,6 +107,17 @@ impl Texts {
         Ok(())
     }
 
+    // Keeps the first texts, as many as `count`.
+    pub(crate) fn truncate(&mut self, count: usize)
+        ensures { self.new ≡ take count self.old }
+    {
+        if count < self.starts.len() {
+            let (start, _) = self.starts.span(count, self.bytes.len());
+            self.starts.truncate(count);
+            self.bytes.truncate(start);
+        }
+    }
+
     // Adds the fields of a record that `csv` read. A refusal leaves the list as it was.
     pub(crate) fn append(&mut self, row: &ByteRecord) -> Result<(), OutOfMemory>
         requires text { AllText (fields_of row.now) }

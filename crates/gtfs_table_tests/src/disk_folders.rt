@@ -14,7 +14,7 @@ use std::test::Fail;
 use std::{env, fs, process};
 
 // A new folder of this test's own.
-fn make_folder(rt: &HostRuntime, test: &str) -> Result<String, Fail> {
+pub(crate) fn make_folder(rt: &HostRuntime, test: &str) -> Result<String, Fail> {
     let base = env::temp_dir(rt)?;
     let path = format!(in rt.alloc();
         "{}/gtfs_table_tests-{}-{test}",
@@ -317,7 +317,8 @@ fn what_cannot_be_written_counts_as_a_failure(rt: HostRuntime) -> Result<(), Fai
     Ok(())
 }
 
-fn make_sparse(rt: &HostRuntime, base: &str, len: u64) -> Result<(), Fail> {
+// A file of this length that takes no place.
+pub(crate) fn make_sparse(rt: &HostRuntime, base: &str, len: u64) -> Result<(), Fail> {
     let path = format!(in rt.alloc(); "{base}/sparse")?;
     Ok(fs::create(rt, path.as_str())?.set_len(len)?)
 }

@@ -1,4 +1,4 @@
-use Rattle.std.proofs.Common.{◌≡◌, ℕ, List, Some, true}
+use Rattle.std.proofs.Common.{◌≡◌, ◌++◌, ℕ, List, Some, true}
 use Rattle.std.specs.Str.{IsUtf8}
 use Rattle.csv.specs.Reading.{Reached, Ready, default_config, source_of}
 use Rattle.csv.specs.declared.parser.State.TheVariants as st
@@ -11,7 +11,8 @@ abbrev pub invariant-loop-records : goal.invariant-loop-records
 invariant-loop-records l =
     (l.reader.trim ≡ trim.None) × Ready l.reader × (l.reader.config ≡ default_config)
     × (y : List ℕ) × (source_of (λ s. Some s.now) l.reader ≡ Some y)
-    × Reached default_config st.StartRecord l.fn.text l.records l.reader.state y
+    × (read : List (List (List ℕ))) × (l.records ≡ l.fn.records ++ read)
+    × Reached default_config st.StartRecord l.fn.text read l.reader.state y
     × IsUtf8 y × (is_open l.reader.state ≡ true)
 
 abbrev pub decreases-loop-records : goal.decreases-loop-records
