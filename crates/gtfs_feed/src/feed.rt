@@ -7,7 +7,7 @@ use gtfs_days::Service;
 use gtfs_field::OutOfMemory;
 use gtfs_rows::{
     Agency, AgencyNo, Frequency, HeadsignNo, Parts, Route, RouteNo, ServiceNo, Stop, StopNo,
-    StopRow, Transfer, Trip, TripNo, stretch,
+    StopRow, StopTimesByTrip, Transfer, Trip, TripNo, stretch,
 };
 use std::alloc::Global;
 use std::hash::RandomState;
@@ -59,6 +59,14 @@ impl Feed {
         ensures sound { IsSoundParts self.now }
     {
         &self.parts
+    }
+
+    /// The stop times of all trips, for which the feed is let go. It takes no memory.
+    pub fn into_stop_times(self) -> StopTimesByTrip
+        ensures { result ≡ self.stop_times }
+    {
+        let Feed { parts } = self;
+        parts.into_stop_times()
     }
 
     /// The number of an agency by its id, and None exactly where the feed has no such agency.

@@ -47,6 +47,26 @@ impl Feed {
         gtfs_writing::file_text(alloc, self.parts(), file)
     }
 
+    /// The same text, in the memory of these bytes, which are let go. So less memory is touched
+    /// for the first time.
+    ///
+    /// # Errors
+    /// `OutOfMemory` where memory is refused. Then nothing of the text is left.
+    pub fn file_text_in(
+        &self,
+        alloc: Global,
+        file: File,
+        memory: Vec<u8>,
+    ) -> Result<String, OutOfMemory>
+        ensures text { IfOk result (λ text. text_of_table
+            (table_of (written (content_of_parts self.now)) file) ≡ Some (string_bytes text)) }
+        ensures reads_back { IfOk result (λ text. table_of_bytes (Some (string_bytes text))
+            ≡ table_of (written (content_of_parts self.now)) file) }
+        ensures form { IsWrittenForm (content_of_parts self.now) }
+    {
+        gtfs_writing::file_text_in(alloc, self.parts(), file, memory)
+    }
+
     /// Whether the text of some file, as [`Feed::file_text`] gives it, has more bytes than this
     /// limit. No text is made: each file is counted, in one pass.
     ///

@@ -68,6 +68,14 @@ fn stop_times_stand_by_sequence(rt: HostRuntime) -> Result<(), Fail> {
 }
 
 #[test]
+fn a_feed_is_given_up_for_its_stop_times(rt: HostRuntime) -> Result<(), Fail> {
+    let feed = feed_with(&rt, rt.alloc(), &FULL)?;
+    let stop_times = feed.into_stop_times();
+    assert_is(&rt, stop_times.len(), 5, "stop times");
+    Ok(())
+}
+
+#[test]
 fn a_stop_time_has_32_bytes(rt: HostRuntime) {
     assert_is(&rt, size_of::<StopRow>(), 32, "bytes");
 }

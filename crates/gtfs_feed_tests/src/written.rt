@@ -2,6 +2,7 @@
 
 use crate::assertions::assert_is;
 use crate::full::FULL;
+use gtfs_feed::Feed;
 use gtfs_fixtures::{FileText, feed_with};
 use gtfs_table::File;
 use std::alloc::Global;
@@ -136,6 +137,32 @@ fn a_small_feed_is_written_in_full(rt: HostRuntime) -> Result<(), Fail> {
 #[test]
 fn values_are_written_canonically_and_rows_by_key(rt: HostRuntime) -> Result<(), Fail> {
     assert_written(&rt, rt.alloc(), &FULL, FULL_WRITTEN)
+}
+
+// The text of a file is the same in memory of so many other bytes, which are no text.
+fn assert_written_in(
+    rt: &impl Abort,
+    alloc: Global,
+    feed: &Feed,
+    file: File,
+    others: usize,
+) -> Result<(), Fail> {
+    let memory = vec![in alloc; 0xff; others]?;
+    let text = feed.file_text_in(alloc, file, memory)?;
+    let wanted = feed.file_text(alloc, file)?;
+    assert_is(rt, text.as_str(), wanted.as_str(), file.name());
+    Ok(())
+}
+
+// No text has fewer than 10 bytes, and none as many as 10,000.
+#[test]
+fn texts_are_the_same_in_memory_of_other_bytes(rt: HostRuntime) -> Result<(), Fail> {
+    let feed = feed_with(&rt, rt.alloc(), &FULL)?;
+    for file in File::ALL {
+        assert_written_in(&rt, rt.alloc(), &feed, file, 10)?;
+        assert_written_in(&rt, rt.alloc(), &feed, file, 10_000)?;
+    }
+    Ok(())
 }
 
 // Control characters in the texts of every file with texts: a tab, a line feed, a delete and two

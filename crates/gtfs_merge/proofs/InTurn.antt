@@ -1,5 +1,5 @@
 -- Lists that stand one after another in one list.
-use Rattle.std.proofs.Common.{◌≡◌, ◌+◌, ◌<◌, ◌∙◌, ◌++◌, ◌∷◌, [], ℕ, zero, suc, List, length, map, take, get_or, sym, ap, subst, refl, arith, length-append, add-one, append-nil, append_assoc}
+use Rattle.std.proofs.Common.{◌≡◌, ◌+◌, ◌<◌, ◌∙◌, ◌++◌, ◌∷◌, [], ℕ, zero, suc, List, length, map, take, get_or, sym, ap, subst, refl, arith, length-append, add-one, append-nil}
 use Rattle.std.specs.List.{All, flat_map}
 use Rattle.std.proofs.Math.Seq.{take-suc}
 use Rattle.std.proofs.lemmas.List.Concat.{flat_map-append}
@@ -55,10 +55,3 @@ pub same-index : {X : Type 0} (xs : List X) (n : ℕ) (d e : X) → n < length x
 same-index [] n d e within = absurd (omega arith)
 same-index (x ∷ xs) zero d e within = refl
 same-index (x ∷ xs) (suc n) d e within = same-index xs n d e (omega arith)
-
--- one more element of a mapped list, after what stood there first
-pub mapped-more : {A B : Type 0} (f : A → B) (xs : List A) (n : ℕ) (d : A) (first before after : List B) (y : B) → n < length xs → before ≡ first ++ map f (take n xs) → after ≡ before ++ y ∷ [] → y ≡ f (get_or xs n d)
-    → after ≡ first ++ map f (take (n + 1) xs)
-mapped-more f xs n d first before after y within so_far added is =
-    added ∙ (λ i. so_far i ++ is i ∷ []) ∙ append_assoc first (map f (take n xs)) (f (get_or xs n d) ∷ [])
-    ∙ ap (λ ys. first ++ ys) (sym (map-append f (take n xs) (get_or xs n d ∷ [])) ∙ ap (map f) (sym (ap (λ m. take m xs) (add-one n) ∙ take-suc xs n d within)))

@@ -49,6 +49,7 @@ pub mod MergedStopTimes
 pub mod TransferOrder
 pub mod MergedTransfers
 pub mod MergedFeed
+pub mod TripsInTurn
 pub mod TripsOfSides
 pub mod ByNewIds
 pub mod Distinct

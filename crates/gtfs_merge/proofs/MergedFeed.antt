@@ -13,6 +13,7 @@ use Rattle.gtfs_rows.specs.Sound.{IsSound}
 use Rattle.gtfs_rows.specs.Views.{IsCut, IsSoundParts, agency_ids, agency_of, content_of_parts, frequency_of, is_number_within, route_ids, service_ids, service_of, stop_ids, stop_row_of, trip_ids, trip_of, trips_of}
 use Rattle.gtfs_rows.specs.declared.frequency.Frequency.{Frequency as FrequencyRow}
 use Rattle.gtfs_rows.specs.declared.parts.Parts.{Parts}
+use Rattle.gtfs_stop_times.specs.ByTrip.{StopTimesOfTrips}
 use Rattle.gtfs_stop_times.specs.declared.stop_row.StopRow.{StopRow as StopTime}
 use Rattle.gtfs_rows.specs.declared.transfer.Transfer.{Transfer as TransferRow}
 use Rattle.gtfs_rows.specs.declared.trip.Trip.{Trip as TripRow}
@@ -33,7 +34,6 @@ use Rattle.gtfs_merge.specs.declared.id_rows.IdRows.{IdRows}
 use Rattle.gtfs_merge.specs.declared.kind.Kind.{Kind}
 use Rattle.gtfs_merge.specs.declared.kind.Kind.TheVariants as kind
 use Rattle.gtfs_merge.specs.declared.merged_frequencies.Frequencies.{Frequencies}
-use Rattle.gtfs_merge.specs.declared.merged_stop_times.StopTimes.{StopTimes}
 use Rattle.gtfs_merge.specs.declared.sides.Sides.{Sides}
 use Rattle.gtfs_merge.proofs.InTurn.{starts-in_turn}
 use Rattle.gtfs_merge.proofs.MergedSound.{merged-sound}
@@ -79,7 +79,7 @@ module _ (p : Parts) where
 
 module _ (sides : Sides) (sound_a : IsSoundParts sides.a.now) (sound_b : IsSoundParts sides.b.now) (few : (c : Kind) → AreFew c (content_of_parts sides.a.now) (content_of_parts sides.b.now))
     (zone : zone_texts_differ (content_of_parts sides.a.now) (content_of_parts sides.b.now) ≡ false) (k : AllEntries) (are : AreMergedKinds sides k) (hs : HeadsignTable) (are_h : AreHeadsigns sides hs)
-    (r : IdRows) (are_r : AreIdRows sides r) (st : StopTimes) (are_st : StandInTurn (map (stop_rows_from sides k.stops.numbers hs) k.trips.rows) st.starts.items st.rows.items)
+    (r : IdRows) (are_r : AreIdRows sides r) (st : StopTimesOfTrips) (are_st : StandInTurn (map (stop_rows_from sides k.stops.numbers hs) k.trips.rows) st.starts st.rows)
     (fr : Frequencies) (are_fr : StandInTurn (map (frequencies_from sides) k.trips.rows) fr.starts.items fr.rows.items)
     (ts : List TransferRow) (are_ts : ts ≡ merged_transfers sides k) where
   abbrev m : Parts
@@ -161,7 +161,7 @@ module _ (sides : Sides) (sound_a : IsSoundParts sides.a.now) (sound_b : IsSound
   entry-count : length k.trips.rows ≡ length r.trips
   entry-count = sym (length-map k.trips.rows (λ e. e.id)) ∙ ap length (are kind.Trip).rows.ids ∙ trip-count
 
-  row-cut : IsCut m st.starts.items st.rows.items
+  row-cut : IsCut m st.starts st.rows
   row-cut = (starts-in_turn _ _ _ are_st ∙ length-map k.trips.rows (stop_rows_from sides k.stops.numbers hs) ∙ entry-count, are_st.rising, are_st.from_first)
 
   period-cut : IsCut m fr.starts.items fr.rows.items

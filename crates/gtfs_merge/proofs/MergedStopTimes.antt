@@ -25,7 +25,8 @@ use Rattle.gtfs_merge.specs.Order.{Entry}
 use Rattle.gtfs_merge.specs.Renaming.{Renaming, stop_row_with}
 use Rattle.gtfs_merge.specs.Renumbered.{AreNewNumbers}
 use Rattle.gtfs_merge.specs.Sides.{merged_ids, merged_parts, side_names, side_parts}
-use Rattle.gtfs_merge.specs.TripRows.{frequencies_from, renumbered_row, stop_rows_from}
+use Rattle.gtfs_stop_times.specs.Renumbered.{renumbered_row}
+use Rattle.gtfs_merge.specs.TripRows.{frequencies_from, stop_rows_from}
 use Rattle.gtfs_merge.specs.declared.kind.Kind.TheVariants as kind
 use Rattle.gtfs_merge.specs.declared.sides.Sides.{Sides}
 use Rattle.gtfs_merge.proofs.ReferenceNumbers.{headsign-named, headsign-within, number-named, number-within}

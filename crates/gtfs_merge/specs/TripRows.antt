@@ -1,23 +1,34 @@
 -- The stop times and the frequencies of a merged feed, trip after trip.
-use Rattle.std.specs.Prelude.{◌≡◌, ℕ, List, [], length, map, Option, None, option_and_then, slice_index_or}
+use Rattle.std.specs.Prelude.{◌≡◌, ℕ, List, [], length, map, Option, slice_index_or}
 use Rattle.std.specs.List.{flat_map}
 use Rattle.csv.specs.Records.{Rising}
 use Rattle.gtfs_rows.specs.Trips.{frequencies_by_trip, stop_rows_by_trip}
 use Rattle.gtfs_rows.specs.declared.frequency.Frequency.{Frequency}
+use Rattle.gtfs_stop_times.specs.ByTrip.{StopTimesOfTrips}
+use Rattle.gtfs_stop_times.specs.Renumbered.{renumbered_row}
+use Rattle.gtfs_stop_times.specs.declared.joined.TripOf.TheVariants as trip
+use Rattle.gtfs_stop_times.specs.declared.joined.TripOf.{TripOf}
 use Rattle.gtfs_stop_times.specs.declared.stop_row.StopRow.{StopRow}
 use Rattle.gtfs_table.specs.Parts.{parts}
 use Rattle.gtfs_merge.specs.Headsigns.{HeadsignTable, numbers_on}
 use Rattle.gtfs_merge.specs.Order.{Entry}
 use Rattle.gtfs_merge.specs.Renumbered.{NewNumbers, numbers_of}
 use Rattle.gtfs_merge.specs.Sides.{side_parts}
+use Rattle.gtfs_merge.specs.declared.kind.Side.{Side}
+use Rattle.gtfs_merge.specs.declared.kind.Side.TheVariants as side
 use Rattle.gtfs_merge.specs.declared.sides.Sides.{Sides}
 
--- a stop time whose stop and headsign have their new numbers
-abbrev pub renumbered_row : List ℕ → List (Option ℕ) → StopRow → StopRow
-renumbered_row stops headsigns r = record r {
-  stop_id = record { 0 = slice_index_or stops r.stop_id.0 0 };
-  stop_headsign = option_and_then (λ n. slice_index_or headsigns n None) r.stop_headsign;
-}
+-- of which side the trip of an entry is, and its number there
+abbrev pub trip_on : Side → ℕ → TripOf
+trip_on side.A n = trip.First n
+trip_on side.B n = trip.Second n
+
+abbrev pub entry_trip : Entry → TripOf
+entry_trip e = trip_on e.side e.number
+
+-- stop times whose stops and headsigns have their new numbers
+abbrev pub with_numbers : List ℕ → List (Option ℕ) → StopTimesOfTrips → StopTimesOfTrips
+with_numbers stops headsigns t = record { rows = map (renumbered_row stops headsigns) t.rows; starts = t.starts }
 
 -- the stop times and the frequencies of a merged trip
 abbrev pub stop_rows_from : Sides → NewNumbers → HeadsignTable → Entry → List StopRow

@@ -8,7 +8,6 @@ use crate::merged_frequencies::Frequencies;
 use crate::merged_kinds::MergedKinds;
 use crate::merged_routes::merged_routes;
 use crate::merged_services::merged_services;
-use crate::merged_stop_times::StopTimes;
 use crate::merged_stops::merged_stops;
 use crate::merged_trips::merged_trips;
 use crate::sides::Sides;
@@ -66,7 +65,7 @@ impl IdRows {
     pub(crate) fn with_lists(
         self,
         transfers: List<Transfer>,
-        stop_times: StopTimes,
+        stop_times: StopTimesByTrip,
         frequencies: Frequencies,
         headsigns: List<Text>,
     ) -> Parts
@@ -79,11 +78,7 @@ impl IdRows {
             services,
             trips,
         } = self;
-        let StopTimes { rows, starts } = stop_times;
-        let Frequencies {
-            rows: frequencies,
-            starts: frequency_starts,
-        } = frequencies;
+        let Frequencies { rows, starts } = frequencies;
         Parts {
             agencies,
             stops,
@@ -91,9 +86,9 @@ impl IdRows {
             services,
             trips,
             transfers,
-            stop_times: StopTimesByTrip::new(List::new(rows), List::new(starts)),
-            frequencies: List::new(frequencies),
-            frequency_starts: List::new(frequency_starts),
+            stop_times,
+            frequencies: List::new(rows),
+            frequency_starts: List::new(starts),
             headsigns,
         }
     }

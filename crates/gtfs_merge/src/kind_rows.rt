@@ -72,4 +72,12 @@ impl<'a> KindRows<'a> {
     {
         self.numbers.of(side)
     }
+
+    // The new numbers, for which the rows are let go.
+    pub(crate) fn into_numbers(self) -> Numbers
+        ensures { result ≡ self.entry.numbers }
+    {
+        let KindRows { rows: _, numbers } = self;
+        numbers
+    }
 }

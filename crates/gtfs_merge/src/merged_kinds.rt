@@ -6,6 +6,7 @@ ghost use Rattle.gtfs_merge.specs.Twins.{twin_rows};
 use crate::kind::Kind;
 use crate::kind_rows::KindRows;
 use crate::names::Names;
+use crate::renumbered::Numbers;
 use crate::sides::Sides;
 use crate::twins::Twins;
 use gtfs_field::OutOfMemory;
@@ -72,5 +73,19 @@ impl<'a> MergedKinds<'a> {
             services,
             trips,
         })
+    }
+
+    // The new numbers of stops, for which all else is let go.
+    pub(crate) fn into_stop_numbers(self) -> Numbers
+        ensures { result ≡ self.entry.stops.numbers }
+    {
+        let MergedKinds {
+            agencies: _,
+            stops,
+            routes: _,
+            services: _,
+            trips: _,
+        } = self;
+        stops.into_numbers()
     }
 }

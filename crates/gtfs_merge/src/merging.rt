@@ -6,10 +6,9 @@ ghost use Rattle.gtfs_rows.specs.Trimmed.{trimmed};
 ghost use Rattle.gtfs_rows.specs.Views.{IsSoundParts, content_of_parts};
 ghost use Rattle.gtfs_merge.specs.Merged.{zone_texts_differ};
 ghost use Rattle.gtfs_merge.specs.Names.{AreHashedBy};
-ghost use Rattle.gtfs_merge.specs.Merging.{AreRowsOfMerge, IsFeedOf, IsLimitFault, IsMergeOf, IsRefusal, KeepsDepartures};
-ghost use Rattle.gtfs_merge.specs.Sides.{content_a, content_b};
+ghost use Rattle.gtfs_merge.specs.Merging.{AreListsOfPair, AreRowsOfMerge, IsFeedOf, IsLimitFault, IsMergeOf, IsRefusal, KeepsDepartures};
 
-use crate::merged_parts::merged_parts;
+use crate::merged_lists::MergedLists;
 use crate::names::Names;
 use crate::sides::Sides;
 use crate::twins::Twins;
@@ -17,7 +16,7 @@ use crate::zones::zones_differ;
 use gtfs_days::Cut;
 use gtfs_feed::Feed;
 use gtfs_field::{Day, OutOfMemory};
-use gtfs_rows::Parts;
+use gtfs_rows::{Parts, StopTimesByTrip};
 use std::alloc::Global;
 use std::borrow::Cow;
 use std::hash::RandomState;
@@ -257,7 +256,8 @@ fn left_of(alloc: Global, random: RandomState, feed: &Feed, cut: Cut) -> Result<
     feed.trimmed(alloc, random, cut)
 }
 
-// The same of both feeds as they are.
+// The same of both feeds as they are. Of one that is given up only the stop times are left once
+// all else is merged.
 fn rows_of_pair(
     alloc: Global,
     random: RandomState,
@@ -270,28 +270,41 @@ fn rows_of_pair(
     ensures { IfOk result (AreRowsOfMerge random near None
         (content_of_parts (cow_value a.entry)) (content_of_parts (cow_value b.entry))) }
 {
-    let sides = Sides {
-        a: a.as_ref(),
-        b: b.as_ref(),
-        near,
-    };
-    whole_rows(alloc, random, &sides)
+    let (lists, names) = lists_of_pair(alloc, random, a.as_ref(), b.as_ref(), near)?;
+    let first = stop_times_of(alloc, a)?;
+    let second = stop_times_of(alloc, b)?;
+    let parts = lists.with_stop_times(alloc, first, second)?;
+    Ok((parts, names))
 }
 
-// The same of two feeds that are lent.
-fn whole_rows(
+// All lists of the merged feed but its stop times, and what the ids of both feeds became.
+fn lists_of_pair(
     alloc: Global,
     random: RandomState,
-    sides: &Sides,
-) -> Result<(Parts, Names), OutOfMemory>
-    requires { zone_texts_differ (content_a sides.now) (content_b sides.now) ≡ false }
-    ensures { IfOk result (AreRowsOfMerge random sides.now.near None
-        (content_a sides.now) (content_b sides.now)) }
+    a: &Feed,
+    b: &Feed,
+    near: Option<u32>,
+) -> Result<(MergedLists, Names), OutOfMemory>
+    requires { zone_texts_differ (content_of_parts a.now) (content_of_parts b.now) ≡ false }
+    ensures { IfOk result (AreListsOfPair random near a.now b.now) }
 {
-    let twins = Twins::of_feeds(alloc, sides)?;
-    let names = Names::of_twins(alloc, random, sides, &twins)?;
-    let parts = merged_parts(alloc, random, sides, &twins, &names)?;
-    Ok((parts, names))
+    let sides = Sides { a, b, near };
+    sides.soundness();
+    let twins = Twins::of_feeds(alloc, &sides)?;
+    let names = Names::of_twins(alloc, random, &sides, &twins)?;
+    let lists = MergedLists::of_feeds(alloc, random, &sides, &twins, &names)?;
+    Ok((lists, names))
+}
+
+// The stop times of a feed. One that is given up is let go but for them.
+fn stop_times_of(alloc: Global, feed: Cow<'_, Feed>) -> Result<StopTimesByTrip, OutOfMemory>
+    ensures { IfOk result
+        (λ stop_times. stop_times ≡ (cow_value feed.entry).stop_times) }
+{
+    match feed {
+        Cow::Borrowed(feed) => feed.parts().stop_times.copied(alloc),
+        Cow::Owned(feed) => Ok(feed.into_stop_times()),
+    }
 }
 
 // The feed of these rows, unless a file of it is too long.

@@ -41,7 +41,7 @@ pub use choices::{
 pub use frequency::Frequency;
 pub use gtfs_stop_times::{
     DropOffType, HeadsignNo, OptionalClock, OptionalHeadsign, PickupType, RowRange, StopNo,
-    StopRow, StopTimesByTrip, Timepoint, stretch,
+    StopRow, StopTimesByTrip, Timepoint, TripOf, stretch,
 };
 pub use numbers::{AgencyNo, RouteNo, ServiceNo, TripNo};
 pub use parts::Parts;

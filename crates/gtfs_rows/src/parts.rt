@@ -1,3 +1,5 @@
+ghost use Rattle.std.specs.Prelude.{◌≡◌};
+
 use crate::agency::Agency;
 use crate::frequency::Frequency;
 use crate::route::Route;
@@ -43,5 +45,26 @@ impl Drop for Parts {
             frequency_starts: _,
             headsigns: _,
         } = self;
+    }
+}
+
+impl Parts {
+    /// The stop times of all trips, for which all other rows are let go. It takes no memory.
+    pub fn into_stop_times(self) -> StopTimesByTrip
+        ensures { result ≡ self.stop_times }
+    {
+        let Parts {
+            agencies: _,
+            stops: _,
+            routes: _,
+            services: _,
+            trips: _,
+            transfers: _,
+            stop_times,
+            frequencies: _,
+            frequency_starts: _,
+            headsigns: _,
+        } = self;
+        stop_times
     }
 }

@@ -1,3 +1,4 @@
 pub mod Turns
 pub mod Places
 mod MarkedTrips
+mod RangeFacts

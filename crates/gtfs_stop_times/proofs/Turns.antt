@@ -15,10 +15,16 @@ length-starts s (l ∷ ls) = ap suc (length-starts (s + length l) ls)
 -- ---- lists one after the other are the parts from where each begins
 
 module _ {X : Type 0} where
-  end-first : (s : ℕ) (ls : List (List X)) (size : ℕ) → size ≡ s + length (flat_map (λ l. l) ls) → get_or (starts_of s ls) 0 size ≡ s
+  pub end-first : (s : ℕ) (ls : List (List X)) (size : ℕ) → size ≡ s + length (flat_map (λ l. l) ls) → get_or (starts_of s ls) 0 size ≡ s
   unfolding starts_of
   end-first s [] size all = omega (arith, all)
   end-first s (l ∷ ls) size all = refl
+
+  pub rising-starts : (low s : ℕ) (ls : List (List X)) (size : ℕ) → low ≤ s → size ≡ s + length (flat_map (λ l. l) ls) → Rising low (starts_of s ls) size
+  unfolding starts_of Rising
+  rising-starts low s [] size up all = omega (arith, up, all)
+  rising-starts low s (l ∷ ls) size up all =
+      (up, rising-starts s (s + length l) ls size (omega arith) (omega (arith, all, length-append l (flat_map (λ x. x) ls))))
 
   joined-from : (before : List X) (ls : List (List X)) → parts (starts_of (length before) ls) (before ++ flat_map (λ l. l) ls) ≡ ls
   unfolding parts starts_of

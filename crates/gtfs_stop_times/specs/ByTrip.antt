@@ -1,5 +1,5 @@
 -- The stop times of all trips: as they are seen, and where they stand.
-use Rattle.std.specs.Prelude.{◌≡◌, ◌≤◌, ◌-◌, ℕ, Bool, false, List, drop, flat_map, length, map, slice_index_or, take, ⊤}
+use Rattle.std.specs.Prelude.{◌≡◌, ◌<◌, ◌≤◌, ◌-◌, ◌++◌, ℕ, Bool, false, List, drop, flat_map, length, map, slice_index_or, take, ⊤}
 use Rattle.std.specs.List.{All}
 use Rattle.gtfs_table.specs.Parts.{starts_of}
 use Rattle.gtfs_stop_times.specs.declared.by_trip.Places.TheVariants as places
@@ -32,11 +32,21 @@ is_at stops row = slice_index_or stops row.stop_id.0 false
 abbrev pub AreWithin : ℕ → List RowRange → Type 0
 AreWithin size ranges = All (λ s. (s.start ≤ s.end) × (s.end ≤ size)) ranges
 
+-- no range begins in a list of this length and ends behind it
+abbrev pub AreUnbroken : ℕ → List RowRange → Type 0
+AreUnbroken size ranges = All (λ s. size < s.end → size ≤ s.start) ranges
+
 -- the stop times whose rows stand so
 abbrev pub at_places : List StopRow → Places → StopTimesOfTrips
 at_places rows (places.InTurn starts) = record { rows = rows; starts = starts.items }
-at_places rows (places.Anywhere ranges len) = in_turn (map (rows_in rows) ranges.items)
+at_places rows (places.Anywhere more ranges len) = in_turn (map (rows_in (rows ++ more.items)) ranges.items)
+
+-- so many rows in all have ranges, each in one of two lists
+pub record AreCounted (rows more : List StopRow) (ranges : List RowRange) (len : ℕ) : Type 0 where
+  pub within : AreWithin (length (rows ++ more)) ranges
+  pub unbroken : AreUnbroken (length rows) ranges
+  pub counted : length (in_turn (map (rows_in (rows ++ more)) ranges)).rows ≡ len
 
 abbrev pub AreSoundPlaces : List StopRow → Places → Type 0
 AreSoundPlaces rows (places.InTurn starts) = ⊤
-AreSoundPlaces rows (places.Anywhere ranges len) = AreWithin (length rows) ranges.items × (length (in_turn (map (rows_in rows) ranges.items)).rows ≡ len)
+AreSoundPlaces rows (places.Anywhere more ranges len) = AreCounted rows more.items ranges.items len

@@ -1,3 +1,5 @@
 pub mod Choices
 pub mod Optional
 pub mod ByTrip
+pub mod Joined
+pub mod Renumbered

@@ -1,10 +1,13 @@
-ghost use Rattle.std.specs.Prelude.{◌≡◌, ◌<◌, ◌≤◌, IfOk, Some, length, map, slice_get};
+ghost use Rattle.std.specs.Prelude.{◌≡◌, ◌<◌, ◌≤◌, ◌++◌, IfOk, Some, length, map, slice_get};
 ghost use Rattle.std.specs.List.{list_any};
 ghost use Rattle.csv.specs.Records.{Rising};
 ghost use Rattle.gtfs_stop_times.specs.ByTrip.{AreWithin, in_turn, is_at, rows_in};
+ghost use Rattle.gtfs_stop_times.specs.Renumbered.{renumbered_row};
 ghost use Rattle.gtfs_table.specs.Parts.{parts};
 
 use crate::marks::{marked, marked_in_ranges, marked_in_turn};
+use crate::optional::OptionalHeadsign;
+use crate::renumber::renumber;
 use crate::stop_row::StopRow;
 use crate::stretches::stretch;
 use gtfs_field::{List, OutOfMemory};
@@ -24,11 +27,12 @@ pub struct RowRange {
 /// Schedule Reference, `stop_times.txt`).
 ///
 /// They are seen as one list, trip after trip, and where the stop times of each trip begin. In
-/// memory they may stand in the order of the file, so that they need not be moved.
+/// memory they may stand in the order of the file, and those of two feeds in two lists, so that
+/// they need not be moved.
 #[derive(Drop)]
 pub struct StopTimesByTrip {
-    rows: Vec<StopRow>,
-    places: Places,
+    pub(crate) rows: Vec<StopRow>,
+    pub(crate) places: Places,
 }
 
 // Where the stop times of each trip stand.
@@ -36,8 +40,9 @@ pub struct StopTimesByTrip {
 pub(crate) enum Places {
     // One trip after the other, each from its start to the next one.
     InTurn(Vec<usize>),
-    // Each trip where it is. The ranges have so many rows in all.
-    Anywhere(Vec<RowRange>, usize),
+    // Each trip where it is, in the rows or in these, which are counted behind them. The ranges
+    // have so many rows in all.
+    Anywhere(Vec<StopRow>, Vec<RowRange>, usize),
 }
 
 impl Model for StopTimesByTrip {
@@ -71,9 +76,10 @@ impl StopTimesByTrip {
         requires len { length (in_turn (map (rows_in rows.items) ranges.items)).rows ≡ len }
         ensures { result ≡ in_turn (map (rows_in rows.items) ranges.items) }
     {
+        let alloc = *rows.allocator();
         StopTimesByTrip {
             rows,
-            places: Places::Anywhere(ranges, len),
+            places: Places::Anywhere(Vec::new(alloc), ranges, len),
         }
     }
 
@@ -83,7 +89,7 @@ impl StopTimesByTrip {
     {
         match &self.places {
             Places::InTurn(_) => self.rows.len(),
-            Places::Anywhere(_, len) => *len,
+            Places::Anywhere(_, _, len) => *len,
         }
     }
 
@@ -96,7 +102,7 @@ impl StopTimesByTrip {
     {
         match &self.places {
             Places::InTurn(starts) => stretch(&self.rows, starts, trip),
-            Places::Anywhere(ranges, _) => rows_in(&self.rows, ranges[trip]),
+            Places::Anywhere(more, ranges, _) => rows_in(&self.rows, more, ranges[trip]),
         }
     }
 
@@ -113,10 +119,15 @@ impl StopTimesByTrip {
         ensures { IfOk result (λ trips. trips.items
             ≡ map (list_any (is_at stops.now)) (parts self.now.starts self.now.rows)) }
     {
-        let marks = marked(alloc, &self.rows, stops)?;
         match &self.places {
-            Places::InTurn(starts) => marked_in_turn(alloc, &marks, starts),
-            Places::Anywhere(ranges, _) => marked_in_ranges(alloc, &marks, ranges),
+            Places::InTurn(starts) => {
+                let marks = marked(alloc, &self.rows, &[], stops)?;
+                marked_in_turn(alloc, &marks, starts)
+            }
+            Places::Anywhere(more, ranges, _) => {
+                let marks = marked(alloc, &self.rows, more, stops)?;
+                marked_in_ranges(alloc, &marks, ranges)
+            }
         }
     }
 
@@ -130,18 +141,48 @@ impl StopTimesByTrip {
         let rows = Vec::from_slice(alloc, &self.rows)?;
         let places = match &self.places {
             Places::InTurn(starts) => Places::InTurn(Vec::from_slice(alloc, starts)?),
-            Places::Anywhere(ranges, len) => {
-                Places::Anywhere(Vec::from_slice(alloc, ranges)?, *len)
-            }
+            Places::Anywhere(more, ranges, len) => Places::Anywhere(
+                Vec::from_slice(alloc, more)?,
+                Vec::from_slice(alloc, ranges)?,
+                *len,
+            ),
         };
         Ok(StopTimesByTrip { rows, places })
     }
+
+    /// The same with other numbers of stops and headsigns: at each number stands what it becomes. A
+    /// stop that has none becomes the first one, and a headsign that has none becomes none.
+    ///
+    /// The numbers are written into the stop times where they stand. It takes no memory.
+    pub fn renumbered(self, stops: &[usize], headsigns: &[OptionalHeadsign]) -> StopTimesByTrip
+        ensures rows { result.rows ≡ map (renumbered_row stops.now headsigns.now) self.rows }
+        ensures starts { result.starts ≡ self.starts }
+    {
+        let StopTimesByTrip { mut rows, places } = self;
+        renumber(&mut rows, stops, headsigns);
+        match places {
+            Places::InTurn(starts) => StopTimesByTrip::new(List::new(rows), List::new(starts)),
+            Places::Anywhere(mut more, ranges, len) => {
+                renumber(&mut more, stops, headsigns);
+                StopTimesByTrip {
+                    rows,
+                    places: Places::Anywhere(more, ranges, len),
+                }
+            }
+        }
+    }
 }
 
-// The rows of a range.
-fn rows_in(rows: &[StopRow], range: RowRange) -> &[StopRow]
-    requires { (range.start ≤ range.end) × (range.end ≤ length rows.now) }
-    ensures { result.now ≡ rows_in rows.now range }
+// The rows of a range in a list and in another one, which is counted behind it.
+fn rows_in<'a>(rows: &'a [StopRow], more: &'a [StopRow], range: RowRange) -> &'a [StopRow]
+    requires within { (range.start ≤ range.end) × (range.end ≤ length (rows.now ++ more.now)) }
+    requires unbroken { length rows.now < range.end → length rows.now ≤ range.start }
+    ensures { result.now ≡ rows_in (rows.now ++ more.now) range }
 {
-    &rows[range.start..range.end]
+    let behind = rows.len();
+    if range.end <= behind {
+        &rows[range.start..range.end]
+    } else {
+        &more[range.start - behind..range.end - behind]
+    }
 }

@@ -9,25 +9,30 @@
 //! - A [`StopNo`] is the rank of an id among the ids of all stops, by bytes, from 0; a
 //!   [`HeadsignNo`] is the index of a headsign.
 //! - [`StopTimesByTrip`] are the stop times of all trips, which may stay in the order of the file;
-//!   [`stretch`] finds the items of one trip in a list of those of all trips.
+//!   [`stretch`] finds the items of one trip in a list of those of all trips. A [`TripOf`] is a
+//!   trip of one of two feeds, whose stop times are joined.
 //! - [`room_for`] tells for how many items a list of millions asks.
 //!
 //! The numbers of choices are in `specs/Choices.antt`; a value that may be missing, and its four
 //! bytes, in `specs/Optional.antt`; the stop times of all trips, as they are seen and where they
-//! stand, in `specs/ByTrip.antt`.
+//! stand, in `specs/ByTrip.antt`, those of two feeds in `specs/Joined.antt`, and what other
+//! numbers make of a stop time in `specs/Renumbered.antt`.
 #![tactic(auto)]
 
 mod by_trip;
 mod choices;
+mod joined;
 mod marks;
 mod numbers;
 mod optional;
+mod renumber;
 mod room;
 mod stop_row;
 mod stretches;
 
 pub use by_trip::{RowRange, StopTimesByTrip};
 pub use choices::{DropOffType, PickupType, Timepoint};
+pub use joined::TripOf;
 pub use numbers::{HeadsignNo, StopNo};
 pub use optional::{OptionalClock, OptionalHeadsign};
 pub use room::room_for;

@@ -1,4 +1,4 @@
-ghost use Rattle.std.specs.Prelude.{◌≡◌, ◌≤◌, IfOk, length, map};
+ghost use Rattle.std.specs.Prelude.{◌≡◌, ◌≤◌, ◌++◌, IfOk, OnOk, length, map};
 ghost use Rattle.std.specs.List.{list_any};
 ghost use Rattle.csv.specs.Records.{Rising};
 ghost use Rattle.gtfs_stop_times.specs.ByTrip.{AreWithin, is_at, items_in};
@@ -10,19 +10,29 @@ use crate::stretches::stretch;
 use gtfs_field::OutOfMemory;
 use std::alloc::Global;
 
-// Of each row whether it is at one of these stops.
+// Of each row, and then of each of those counted behind them, whether it is at one of these stops.
 pub(crate) fn marked(
     alloc: Global,
     rows: &[StopRow],
+    more: &[StopRow],
     stops: &[bool],
 ) -> Result<Vec<bool>, OutOfMemory>
-    ensures { IfOk result (λ marks. marks.items ≡ map (is_at stops.now) rows.now) }
+    ensures { IfOk result (λ marks. marks.items ≡ map (is_at stops.now) (rows.now ++ more.now)) }
 {
-    let mut marks = Vec::with_capacity(alloc, rows.len())?;
+    let mut marks = Vec::with_capacity(alloc, rows.len().saturating_add(more.len()))?;
+    push_marks(&mut marks, rows, stops)?;
+    push_marks(&mut marks, more, stops)?;
+    Ok(marks)
+}
+
+// Adds of each row whether it is at one of these stops.
+fn push_marks(marks: &mut Vec<bool>, rows: &[StopRow], stops: &[bool]) -> Result<(), OutOfMemory>
+    ensures { OnOk result (marks.new.items ≡ marks.old.items ++ map (is_at stops.now) rows.now) }
+{
     for row in rows {
         marks.push(is_at(stops, row))?;
     }
-    Ok(marks)
+    Ok(())
 }
 
 // Whether a row is at one of these stops.

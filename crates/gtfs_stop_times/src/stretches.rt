@@ -16,7 +16,7 @@ pub fn stretch<'a, T>(rows: &'a [T], starts: &[usize], number: usize) -> &'a [T]
 }
 
 // Where the stretch of this number ends in a list of this length.
-fn end_of(starts: &[usize], number: usize, len: usize) -> usize
+pub(crate) fn end_of(starts: &[usize], number: usize, len: usize) -> usize
     requires { number < length starts.now }
     ensures { result ≡ slice_index_or starts.now (number + 1) len }
 {

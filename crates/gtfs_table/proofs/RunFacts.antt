@@ -66,3 +66,15 @@ runs-first {X = X} starts new_starts items new_items runs k start e r lt at s b 
 -- all of them do
 pub runs-all : {X : Type 0} (starts : List ℕ) (items : List X) (runs : List (List X)) (k : ℕ) → parts starts items ≡ runs → length starts ≤ k → runs ≡ take k runs
 runs-all starts items runs k e le = sym (take_all k runs (omega (arith, le, count-parts starts items runs e)))
+
+-- no byte lies before the first run, also where one more comes, or only the first ones stay
+pub first-push : (starts bytes new_starts new_bytes run : List ℕ) → get_or starts 0 (length bytes) ≡ 0 → new_starts ≡ starts ++ length bytes ∷ [] → new_bytes ≡ bytes ++ run
+    → get_or new_starts 0 (length new_bytes) ≡ 0
+first-push [] bytes new_starts new_bytes run f s b = rw s f
+first-push (e ∷ starts) bytes new_starts new_bytes run f s b = rw s f
+
+pub first-take : (starts bytes new_starts new_bytes : List ℕ) (k start : ℕ) → get_or starts 0 (length bytes) ≡ 0 → k < length starts → start ≡ get_or starts k 0 → new_starts ≡ take k starts
+    → new_bytes ≡ take start bytes → get_or new_starts 0 (length new_bytes) ≡ 0
+first-take [] bytes new_starts new_bytes k start f lt at s b = absurd (omega (arith, lt))
+first-take (e ∷ starts) bytes new_starts new_bytes zero start f lt at s b = let none : start ≡ 0 = at ∙ f in rw (s, b, none) refl
+first-take (e ∷ starts) bytes new_starts new_bytes (suc k) start f lt at s b = rw s f

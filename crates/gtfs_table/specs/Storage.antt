@@ -26,9 +26,10 @@ pub record IsTextStore (t : texts.Inside) : Type 0 where
 abbrev pub runs_of : runs.Inside → List (List ℕ)
 runs_of r = parts r.starts r.bytes.items
 
--- the offsets rise
-abbrev pub IsRunStore : runs.Inside → Type 0
-IsRunStore r = Rising 0 r.starts (length r.bytes.items)
+-- the offsets rise, and no byte lies before the first run, or where there is none
+pub record IsRunStore (r : runs.Inside) : Type 0 where
+  pub rising : Rising 0 r.starts (length r.bytes.items)
+  pub first : slice_index_or r.starts 0 (length r.bytes.items) ≡ 0
 
 -- a record as a run: where in the run its first field begins, where each field ends, and then its bytes
 abbrev pub run_of : Row → List ℕ

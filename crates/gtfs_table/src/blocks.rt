@@ -46,16 +46,6 @@ impl Blocks {
         }
     }
 
-    // No offset yet, and room for this many.
-    pub(crate) fn with_room(alloc: Global, count: usize) -> Result<Blocks, OutOfMemory>
-        ensures { IfOk result (λ blocks. blocks ≡ []) }
-    {
-        Ok(Blocks {
-            bases: Vec::with_capacity(alloc, count / BLOCK + 1)?,
-            distances: Vec::with_capacity(alloc, count)?,
-        })
-    }
-
     // Makes room for this many more.
     pub(crate) fn reserve(&mut self, count: usize) -> Result<(), OutOfMemory>
         ensures { self.new ≡ self.old }

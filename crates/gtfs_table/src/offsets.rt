@@ -37,17 +37,6 @@ impl Offsets {
         }
     }
 
-    // No offset yet, and room for this many.
-    pub(crate) fn with_room(alloc: Global, count: usize) -> Result<Offsets, OutOfMemory>
-        ensures { IfOk result (λ offsets. offsets ≡ []) }
-    {
-        Ok(Offsets {
-            blocks: Blocks::with_room(alloc, count)?,
-            narrow: Vec::new(alloc),
-            wide: Vec::new(alloc),
-        })
-    }
-
     // Makes room for this many more.
     pub(crate) fn reserve(&mut self, count: usize) -> Result<(), OutOfMemory>
         ensures { self.new ≡ self.old }

@@ -17,6 +17,8 @@ use std::marker::Model;
 pub(crate) struct Records {
     short: ShortRecords,
     long: LongRecords,
+    // The size of the file that room was made for.
+    expected: usize,
 }
 
 impl Model for Records {
@@ -31,20 +33,39 @@ impl Records {
     pub(crate) fn new(alloc: Global) -> Records
         ensures { result ≡ [] }
     {
+        Records::in_memory(Vec::new(alloc))
+    }
+
+    // No record yet. Short ones will lie in the memory of these bytes, which are let go.
+    pub(crate) fn in_memory(memory: Vec<u8>) -> Records
+        ensures { result ≡ [] }
+    {
+        let alloc = *memory.allocator();
         Records {
-            short: ShortRecords::new(alloc),
+            short: ShortRecords::in_memory(memory),
             long: LongRecords::new(alloc),
+            expected: 0,
         }
     }
 
-    // No record yet, and room for about as many as a file of this size has.
-    pub(crate) fn with_room(alloc: Global, size: usize) -> Result<Records, OutOfMemory>
-        ensures { IfOk result (λ records. records ≡ []) }
+    // The memory of short ones, with nothing in it.
+    pub(crate) fn into_memory(self) -> Vec<u8>
+        ensures { result.items ≡ [] }
     {
-        Ok(Records {
-            short: ShortRecords::with_room(alloc, size)?,
-            long: LongRecords::new(alloc),
-        })
+        let Records {
+            short,
+            long: _,
+            expected: _,
+        } = self;
+        short.into_memory()
+    }
+
+    // Makes room for about as many more as a file of this size has.
+    pub(crate) fn reserve(&mut self, size: usize) -> Result<(), OutOfMemory>
+        ensures { self.new ≡ self.old }
+    {
+        self.expected = size;
+        self.short.reserve(size)
     }
 
     pub(crate) fn len(&self) -> usize
@@ -106,7 +127,8 @@ impl Records {
             if self.short.push(row)? {
                 return Ok(());
             }
-            self.long.reserve(self.short.room())?;
+            // (memory that is handed in may be far larger than the file)
+            self.long.reserve(self.short.room().min(self.expected))?;
         }
         self.long.push_row(row)
     }

@@ -30,23 +30,37 @@ impl Model for Runs {
 }
 
 impl Runs {
-    pub(crate) fn new(alloc: Global) -> Runs
+    // No run yet. The bytes will lie in the memory of these, which are let go.
+    pub(crate) fn in_memory(mut memory: Vec<u8>) -> Runs
         ensures { result ≡ [] }
     {
+        let alloc = *memory.allocator();
+        memory.clear();
         Runs {
             starts: Offsets::new(alloc),
-            bytes: Vec::new(alloc),
+            bytes: memory,
         }
     }
 
-    // No run yet, and room for this many runs that come to this many bytes.
-    pub(crate) fn with_room(alloc: Global, count: usize, size: usize) -> Result<Runs, OutOfMemory>
-        ensures { IfOk result (λ runs. runs ≡ []) }
+    // The memory of the bytes, with nothing in it.
+    pub(crate) fn into_memory(self) -> Vec<u8>
+        ensures { result.items ≡ [] }
     {
-        Ok(Runs {
-            starts: Offsets::with_room(alloc, count)?,
-            bytes: Vec::with_capacity(alloc, size)?,
-        })
+        let Runs {
+            starts: _,
+            mut bytes,
+        } = self;
+        bytes.clear();
+        bytes
+    }
+
+    // Makes room for this many more runs that come to this many bytes. Memory that is large enough
+    // is used as it is.
+    pub(crate) fn reserve(&mut self, count: usize, size: usize) -> Result<(), OutOfMemory>
+        ensures { self.new ≡ self.old }
+    {
+        self.starts.reserve(count)?;
+        self.bytes.reserve_exact(size)
     }
 
     #[inline(always)]

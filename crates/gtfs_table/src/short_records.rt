@@ -35,23 +35,30 @@ impl Model for ShortRecords {
 }
 
 impl ShortRecords {
-    pub(crate) fn new(alloc: Global) -> ShortRecords
+    // No record yet. The runs will lie in the memory of these bytes, which are let go.
+    pub(crate) fn in_memory(memory: Vec<u8>) -> ShortRecords
         ensures { result ≡ [] }
     {
         ShortRecords {
-            runs: Runs::new(alloc),
+            runs: Runs::in_memory(memory),
         }
     }
 
-    // No record yet, and room for about as many as a file of this size has: a record has a mark for
-    // each comma and line end, and one more. Room that is not used is asked for and not touched.
-    pub(crate) fn with_room(alloc: Global, size: usize) -> Result<ShortRecords, OutOfMemory>
-        ensures { IfOk result (λ records. records ≡ []) }
+    // The memory of the runs, with nothing in it.
+    pub(crate) fn into_memory(self) -> Vec<u8>
+        ensures { result.items ≡ [] }
+    {
+        let ShortRecords { runs } = self;
+        runs.into_memory()
+    }
+
+    // Makes room for about as many more as a file of this size has: a record has a mark for each
+    // comma and line end, and one more. Room that is not used is asked for and not touched.
+    pub(crate) fn reserve(&mut self, size: usize) -> Result<(), OutOfMemory>
+        ensures { self.new ≡ self.old }
     {
         let count = size / BYTES_OF_A_RECORD;
-        Ok(ShortRecords {
-            runs: Runs::with_room(alloc, count, size.saturating_add(count))?,
-        })
+        self.runs.reserve(count, size.saturating_add(count))
     }
 
     #[inline(always)]

@@ -1,4 +1,4 @@
-ghost use Rattle.std.specs.Prelude.{◌≡◌, ◌<◌, length, option_map, IfOk, OnOk, OnErr};
+ghost use Rattle.std.specs.Prelude.{◌≡◌, ◌<◌, [], length, option_map, IfOk, OnOk, OnErr};
 ghost use Rattle.gtfs_table.specs.Rows.{rows_past};
 ghost use Rattle.gtfs_table.specs.Tables.{absent, column_of, field_cut, record_at, table_records, table_state, with_field, with_record};
 ghost use Rattle.gtfs_table.specs.Written.{text_of_table, ReadsBack};
@@ -49,6 +49,14 @@ impl FileTable {
             state: State::Absent,
             records: Records::new(alloc),
         }
+    }
+
+    // The memory of the fields of short records, with nothing in it.
+    pub(crate) fn into_memory(self) -> Vec<u8>
+        ensures { result.items ≡ [] }
+    {
+        let FileTable { state: _, records } = self;
+        records.into_memory()
     }
 
     pub(crate) fn state(&self) -> State

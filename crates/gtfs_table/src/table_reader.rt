@@ -41,12 +41,14 @@ impl Model for TableReader {
 }
 
 impl TableReader {
-    // A reader that has taken nothing.
-    pub(crate) fn new(alloc: Global) -> TableReader
+    // A reader that has taken nothing. It keeps records in the memory of these bytes, which are let
+    // go.
+    pub(crate) fn new(memory: Vec<u8>) -> TableReader
         ensures { result ≡ nothing_read }
     {
+        let alloc = *memory.allocator();
         TableReader {
-            records: Records::new(alloc),
+            records: Records::in_memory(memory),
             left: Vec::new(alloc),
             wanted: PIECE,
             is_text: true,
@@ -140,8 +142,7 @@ impl FileReader for TableReader {
     // Makes room for the records of a file of this size.
     fn expect(&mut self, size: usize) -> Result<(), OutOfMemory> {
         if self.records.len() == 0 {
-            let alloc = *self.left.allocator();
-            self.records = Records::with_room(alloc, size)?;
+            self.records.reserve(size)?;
         }
         Ok(())
     }

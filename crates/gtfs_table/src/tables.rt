@@ -20,6 +20,7 @@ use gtfs_devices::{FolderFault, Folders};
 use gtfs_field::{OutOfMemory, Text};
 use std::alloc::Global;
 use std::marker::Model;
+use std::mem;
 
 /// The nine kept files of a GTFS Schedule dataset as tables,
 /// and the names of what else its folder holds.
@@ -145,10 +146,68 @@ impl Tables {
             (F.calls folders.old) (F.calls folders.new)) }
         ensures ends { IsErrOf result FolderFault.Read → FailsAtLast (F.calls folders.new) }
     {
+        Tables::read_in(alloc, folders, dir, Vec::new(alloc))
+    }
+
+    /// Reads a folder as [`Tables::read`] does, and keeps the fields of stop_times.txt in the
+    /// memory of these bytes, which are let go. So less memory is touched for the first time where
+    /// one folder is read after another ([`Tables::into_memory`]).
+    ///
+    /// # Errors
+    /// Those of [`Tables::read`].
+    pub fn read_in<F: Folders>(
+        alloc: Global,
+        folders: &mut F,
+        dir: &str,
+        memory: Vec<u8>,
+    ) -> Result<Tables, FolderFault>
+        ensures reads { IfOk result (λ tables. HoldsDataset (F.held folders.old) dir.now tables) }
+        ensures within { OnOk result
+            (AllHoldWithin (F.limit folders.old) (F.held folders.old) dir.now kept_files) }
+        ensures refused { IfErr result
+            (λ fault. RefusesDataset fault (F.limit folders.old) (F.held folders.old) dir.now
+            (F.failure_count folders.old) (F.failure_count folders.new)) }
+        ensures unchanged { F.held folders.new ≡ F.held folders.old }
+        ensures grows { F.failure_count folders.old ≤ F.failure_count folders.new }
+        ensures no_failure { OnOk result
+            (F.failure_count folders.new ≡ F.failure_count folders.old) }
+        ensures counts_fault { IfErr result
+            (λ fault. CountsFault fault
+            (F.failure_count folders.old) (F.failure_count folders.new)) }
+        ensures same_limit { F.limit folders.new ≡ F.limit folders.old }
+        ensures called { OnOk result (MakesCalls 10 (F.calls folders.old) (F.calls folders.new)) }
+        ensures called_until { OnErr result
+            (MakesSomeCalls 10 (F.calls folders.old) (F.calls folders.new)) }
+        ensures stopped { IfErr result
+            (λ fault. EndsReading fault (F.limit folders.old) (F.held folders.old) dir.now
+            (F.failure_count folders.old) (F.failure_count folders.new)
+            (F.calls folders.old) (F.calls folders.new)) }
+        ensures ends { IsErrOf result FolderFault.Read → FailsAtLast (F.calls folders.new) }
+    {
         let names = folders.names(alloc, dir)?;
         let mut tables = Tables::of_names(other_names(alloc, names)?, alloc);
-        tables.read_files(alloc, folders, dir)?;
+        tables.read_files(alloc, folders, dir, memory)?;
         Ok(tables)
+    }
+
+    /// Lets the tables go, but for the memory of the fields of stop_times.txt, in which those of
+    /// another folder can be read ([`Tables::read_in`]). Nothing is in it. It takes no memory.
+    pub fn into_memory(self) -> Vec<u8>
+        ensures { result.items ≡ [] }
+    {
+        let Tables {
+            agency: _,
+            stops: _,
+            routes: _,
+            trips: _,
+            stop_times,
+            calendar: _,
+            calendar_dates: _,
+            frequencies: _,
+            transfers: _,
+            others: _,
+        } = self;
+        stop_times.into_memory()
     }
 
     /// Whether a file is there, and is UTF-8. One that is not has no record.
@@ -301,6 +360,7 @@ impl Tables {
         alloc: Global,
         folders: &mut F,
         dir: &str,
+        mut memory: Vec<u8>,
     ) -> Result<(), FolderFault>
         ensures sets { OnOk result
             (SetsTables (F.held folders.old) dir.now kept_files self.old self.new) }
@@ -327,7 +387,8 @@ impl Tables {
         ensures ends { IsErrOf result FolderFault.Read → FailsAtLast (F.calls folders.new) }
     {
         for file in &File::ALL {
-            let table = read_file(alloc, folders, dir, *file)?;
+            let kept = memory_for(*file, &mut memory);
+            let table = read_file(alloc, folders, dir, *file, kept)?;
             self.set(*file, table);
         }
         Ok(())
@@ -373,12 +434,23 @@ impl Tables {
     }
 }
 
+// The memory that the fields of a file are to lie in: all there is for stop_times.txt, which is the
+// largest file by far, and none for another.
+fn memory_for(file: File, memory: &mut Vec<u8>) -> Vec<u8> {
+    let none = Vec::new(*memory.allocator());
+    match file {
+        File::StopTimes => mem::replace(memory, none),
+        _ => none,
+    }
+}
+
 // The file is taken piece after piece, so that its bytes are never whole in memory.
 fn read_file<F: Folders>(
     alloc: Global,
     folders: &mut F,
     dir: &str,
     file: File,
+    memory: Vec<u8>,
 ) -> Result<FileTable, FolderFault>
     ensures reads { IfOk result (λ table. HoldsTable (F.held folders.old) dir.now file table) }
     ensures within { OnOk result
@@ -395,7 +467,7 @@ fn read_file<F: Folders>(
     ensures called { MakesCalls 1 (F.calls folders.old) (F.calls folders.new) }
     ensures ends { IsErrOf result FolderFault.Read → FailsAtLast (F.calls folders.new) }
 {
-    let mut reader = TableReader::new(alloc);
+    let mut reader = TableReader::new(memory);
     if folders.lend(alloc, dir, file.name(), &mut reader)? {
         Ok(reader.into_table()?)
     } else {

@@ -6,6 +6,7 @@
 //!   which they are kept in another way.
 //! - `memory_folders` and `disk_folders` are the two devices that hold folders,
 //!   and `outputs` those that take text; `lending` is what both lend to a reader.
+//! - `given_memory` are folders that are read in memory that is handed in.
 //! - `sizes` are outputs, files, folders and records that are larger than those.
 //! - `faults` are the lines and numbers of faults, also of those of `gtfs_field` and `gtfs_days`.
 //! - `assertions` are what the tests assert with, and `device` what they ask of folders.
@@ -22,6 +23,8 @@ mod device;
 mod disk_folders;
 #[cfg(test)]
 mod faults;
+#[cfg(test)]
+mod given_memory;
 #[cfg(test)]
 mod lending;
 #[cfg(test)]

@@ -12,7 +12,7 @@ use crate::bounds::is_surely_within;
 use crate::fields::Fields;
 use crate::files::write_file;
 use crate::room_rows::RoomRows;
-use crate::text_room::with_room;
+use crate::text_room::in_memory;
 use gtfs_field::OutOfMemory;
 use gtfs_rows::Parts;
 use gtfs_table::File;
@@ -35,7 +35,26 @@ pub fn file_text(alloc: Global, parts: &Parts, file: File) -> Result<String, Out
         ≡ table_of (written (content_of_parts parts.now)) file) }
     ensures form { IsWrittenForm (content_of_parts parts.now) }
 {
-    let empty = with_room(alloc, parts, file)?;
+    file_text_in(alloc, parts, file, Vec::new(alloc))
+}
+
+/// The same text as [`file_text`] makes, in the memory of these bytes, which are let go.
+///
+/// Memory that is refused is an error, and nothing of the text is left then.
+pub fn file_text_in(
+    alloc: Global,
+    parts: &Parts,
+    file: File,
+    memory: Vec<u8>,
+) -> Result<String, OutOfMemory>
+    requires { IsSoundParts parts.now }
+    ensures text { IfOk result (λ text. text_of_table
+        (table_of (written (content_of_parts parts.now)) file) ≡ Some (string_bytes text)) }
+    ensures reads_back { IfOk result (λ text. table_of_bytes (Some (string_bytes text))
+        ≡ table_of (written (content_of_parts parts.now)) file) }
+    ensures form { IsWrittenForm (content_of_parts parts.now) }
+{
+    let empty = in_memory(alloc, parts, file, memory)?;
     let mut rows = Fields::new(alloc, empty);
     let outcome = write_file(parts, file, &mut rows);
     let text = rows.into_rows().into_text();

@@ -3,7 +3,8 @@
 //!
 //! - [`tables`] are all nine files as tables.
 //! - [`file_text`] is the text of one, made without a table: what
-//!   [`Tables::write`](gtfs_table::Tables::write) gives of its table.
+//!   [`Tables::write`](gtfs_table::Tables::write) gives of its table. [`file_text_in`] makes the same
+//!   in memory that is handed in.
 //! - [`has_longer_file`] tells whether the text of some file is longer than a limit,
 //!   and makes none.
 //!
@@ -35,5 +36,5 @@ mod text_rows;
 mod transfers;
 mod trips;
 
-pub use file_texts::{file_text, has_longer_file};
+pub use file_texts::{file_text, file_text_in, has_longer_file};
 pub use files::tables;

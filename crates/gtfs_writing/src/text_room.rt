@@ -18,13 +18,18 @@ const TRIPS: usize = 32;
 // No more room than for so many bytes is made at once, however long the rows are that were counted.
 const MOST: u64 = 1_073_741_824;
 
-// No rows yet, and room for the text of a file.
-pub(crate) fn with_room(alloc: Global, parts: &Parts, file: File) -> Result<TextRows, OutOfMemory>
+// No rows yet, and room for the text of a file, in the memory of these bytes.
+pub(crate) fn in_memory(
+    alloc: Global,
+    parts: &Parts,
+    file: File,
+    memory: Vec<u8>,
+) -> Result<TextRows, OutOfMemory>
     requires { IsSoundParts parts.now }
     ensures { IfOk result (λ rows. rows ≡ []) }
 {
     let bytes = likely_length(alloc, parts, file)?;
-    Ok(TextRows::with_room(alloc, bytes))
+    Ok(TextRows::in_memory(memory, bytes))
 }
 
 // How many bytes to make room for.

@@ -7,7 +7,6 @@ use crate::digits::as_text;
 use crate::quoting::is_quoted;
 use crate::sink::Sink;
 use gtfs_field::OutOfMemory;
-use std::alloc::Global;
 use std::marker::Model;
 
 // Rows as the text of a file:
@@ -25,17 +24,14 @@ impl Model for TextRows {
 }
 
 impl TextRows {
-    // None yet, and room for a text of this many bytes.
-    // Where that is refused, the text grows as it is made.
-    pub(crate) fn with_room(alloc: Global, bytes: usize) -> TextRows
+    // None yet, and room for a text of this many bytes, in the memory that is handed in.
+    // Where more is refused, the text grows as it is made.
+    pub(crate) fn in_memory(memory: Vec<u8>, bytes: usize) -> TextRows
         ensures { result ≡ [] }
     {
-        match String::with_capacity(alloc, bytes) {
-            Ok(text) => TextRows { text },
-            Err(_) => TextRows {
-                text: String::new(alloc),
-            },
-        }
+        let mut text = empty_text(memory);
+        let _ = text.reserve_exact(bytes);
+        TextRows { text }
     }
 
     pub(crate) fn into_text(self) -> String
@@ -78,6 +74,15 @@ impl Sink for TextRows {
         self.text.push_str("\n")?;
         Ok(())
     }
+}
+
+// No text yet, in the memory of these bytes.
+fn empty_text(memory: Vec<u8>) -> String
+    ensures { string_bytes result ≡ [] }
+{
+    let mut bytes = memory;
+    bytes.clear();
+    String::from_utf8(bytes).unwrap()
 }
 
 fn push_field(text: &mut String, field: &str) -> Result<(), OutOfMemory>

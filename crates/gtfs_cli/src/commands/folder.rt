@@ -38,10 +38,39 @@ pub(super) fn read_tables<'w, F: Folders>(
     ensures last { F.failure_count folders.new ≢ F.failure_count folders.old
         → FailsAtLast (F.calls folders.new) }
 {
+    read_tables_in(alloc, folders, dir, Vec::new(alloc))
+}
+
+// The same, with the fields of stop_times.txt in the memory of these bytes, which are let go.
+pub(super) fn read_tables_in<'w, F: Folders>(
+    alloc: Global,
+    folders: &mut F,
+    dir: &'w str,
+    memory: Vec<u8>,
+) -> Result<Tables, Refusal<'w>>
+    ensures read { IfOk result (λ tables. HoldsDataset (F.held folders.old) dir.now tables) }
+    ensures whole { IfOk result (λ tables. HoldsTables (F.limit folders.old)
+        (F.held folders.old) dir.now tables) }
+    ensures refused { IfErr result (λ refusal. (output : ℕ)
+        → IsCheckCause (F.limit folders.old) (F.held folders.old) dir.now
+        (record { folders = F.failure_count folders.old; output = output })
+        (record { folders = F.failure_count folders.new; output = output }) refusal) }
+    ensures unchanged { F.held folders.new ≡ F.held folders.old }
+    ensures same_limit { F.limit folders.new ≡ F.limit folders.old }
+    ensures grows { F.failure_count folders.old ≤ F.failure_count folders.new }
+    ensures no_failure { OnOk result
+        (F.failure_count folders.new ≡ F.failure_count folders.old) }
+    ensures told { IfErr result
+        (TellsFolders (F.failure_count folders.old) (F.failure_count folders.new)) }
+    ensures called { OnOk result (MakesCalls 10 (F.calls folders.old) (F.calls folders.new)) }
+    ensures few { MakesAtMost 10 (F.calls folders.old) (F.calls folders.new) }
+    ensures last { F.failure_count folders.new ≢ F.failure_count folders.old
+        → FailsAtLast (F.calls folders.new) }
+{
     if dir.is_empty() {
         return Err(Refusal::NotThere(dir));
     }
-    match Tables::read(alloc, folders, dir) {
+    match Tables::read_in(alloc, folders, dir, memory) {
         Ok(tables) => Ok(tables),
         Err(fault) => Err(of_folder(fault, dir)),
     }

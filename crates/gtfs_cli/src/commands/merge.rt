@@ -1,11 +1,15 @@
-ghost use Rattle.std.specs.Prelude.{◌≡◌, ◌≢◌, ◌<◌, ◌≤◌, ℕ, length, Option, IfOk, IfErr, IfSome, OnOk, true};
+ghost use Rattle.std.specs.Prelude.{◌≡◌, ◌≢◌, ◌<◌, ◌≤◌, ℕ, length, Option, IfOk, IfErr, IfSome, OnOk, Some, string_bytes, true};
 ghost use Rattle.gtfs_days.specs.Service.{is_service_day};
 ghost use Rattle.gtfs_rows.specs.Views.{content_of_parts};
+ghost use Rattle.gtfs_rows.specs.Written.{written};
+ghost use Rattle.gtfs_rows.specs.WrittenForm.{IsWrittenForm};
 ghost use Rattle.gtfs_merge.specs.Merging.{IsMergeOf, KeepsDepartures};
 ghost use Rattle.gtfs_table.specs.Files.{file_name};
 ghost use Rattle.gtfs_devices.specs.Device.{FailsAtLast, MakesCalls};
 ghost use Rattle.gtfs_devices.specs.Folder.{CountsFault, RefusesWrite, Store, Writes};
 ghost use Rattle.gtfs_table.specs.Reading.{kept_files};
+ghost use Rattle.gtfs_table.specs.Tables.{table_of, table_of_bytes};
+ghost use Rattle.gtfs_table.specs.Written.{text_of_table};
 ghost use Rattle.gtfs_table.specs.declared.file.File.{File as FileOf};
 ghost use Rattle.gtfs_cli.specs.Calls.{MakesAtMost};
 ghost use Rattle.gtfs_commands.specs.Words.{merge_texts_of};
@@ -15,16 +19,18 @@ ghost use Rattle.gtfs_cli.specs.MergeParts.{merge_request_of, AllReadAs, HoldsMe
 ghost use Rattle.gtfs_cli.specs.Refusals.{TellsFailure, TellsFolders};
 ghost use Rattle.gtfs_cli.specs.Failures.{FailedNowhere};
 
-use crate::commands::feed::read_feed;
+use crate::commands::feed::read_feed_in;
 use crate::commands::merge_values::{MergeValues, read_merge_values};
 use crate::commands::names::print_names;
 use crate::commands::refusal::Refusal;
 use gtfs_board::Feed;
 use gtfs_commands::MergeWords;
+use gtfs_field::OutOfMemory;
 use gtfs_merge::{MergeFault, Merged, Options, merge_owned};
 use gtfs_table::{File, FolderFault, Folders, Out};
 use std::alloc::Global;
 use std::hash::RandomState;
+use std::mem;
 
 // Merges the feeds of two folders, writes the files of the merged feed into a third folder, which
 // may be one of the two, and then prints the report of the merge.
@@ -61,19 +67,22 @@ pub(super) fn print_merge<'w, F: Folders, O: Out>(
         → FailsAtLast (F.calls folders.new) }
 {
     let values = read_merge_values(words)?;
-    let merged = merge_folders(alloc, random, words, &values, folders)?;
+    // What is read first and what is made last lie in one piece of memory.
+    let mut memory = Vec::new(alloc);
+    let merged = merge_folders(alloc, random, words, &values, folders, &mut memory)?;
     merged.feed.soundness();
-    write_feed(alloc, &merged.feed, words.out, folders)?;
+    write_feed(alloc, &merged.feed, words.out, folders, &mut memory)?;
     print_names(alloc, &merged.names, values.near, out)
 }
 
-// The merge of the feeds of two folders.
+// The merge of the feeds of two folders. Both are read in this memory, one after the other.
 fn merge_folders<'w, F: Folders>(
     alloc: Global,
     random: RandomState,
     words: &MergeWords<'w>,
     values: &MergeValues,
     folders: &mut F,
+    memory: &mut Vec<u8>,
 ) -> Result<Merged, Refusal<'w>>
     requires { IsMergeRequest (merge_texts_of words.now) (merge_request_of values.now) }
     ensures merged { IfOk result (HoldsMerge (F.limit folders.old) (F.held folders.old)
@@ -93,8 +102,12 @@ fn merge_folders<'w, F: Folders>(
     ensures last { F.failure_count folders.new ≢ F.failure_count folders.old
         → FailsAtLast (F.calls folders.new) }
 {
-    let a = read_feed(alloc, random, folders, words.a)?;
-    let b = read_feed(alloc, random, folders, words.b)?;
+    let a = read_feed_in(alloc, random, folders, words.a, memory)?;
+    let b = read_feed_in(alloc, random, folders, words.b, memory)?;
+    // With a cutoff a copy is made of each feed, which takes as much.
+    if values.cutoff.is_some() {
+        *memory = Vec::new(alloc);
+    }
     merge_feeds(alloc, random, a, b, values)
 }
 
@@ -130,12 +143,13 @@ fn merge_feeds<'w>(
 }
 
 // Writes the nine files of a feed in order, the text of each given up before the next is made.
-// An empty text names no folder.
+// An empty text names no folder. The text of stop_times.txt takes this memory.
 fn write_feed<'w, F: Folders>(
     alloc: Global,
     feed: &Feed,
     dir: &'w str,
     folders: &mut F,
+    memory: &mut Vec<u8>,
 ) -> Result<(), Refusal<'w>>
     ensures written { OnOk result (HoldsFiles (F.held folders.old) (F.held folders.new)
         dir.now (content_of_parts feed.now) kept_files) }
@@ -158,7 +172,7 @@ fn write_feed<'w, F: Folders>(
         return Err(Refusal::Unwritable(dir));
     }
     for file in &File::ALL {
-        write_file(alloc, feed, *file, dir, folders)?;
+        write_file(alloc, feed, *file, dir, folders, memory)?;
     }
     Ok(())
 }
@@ -170,6 +184,7 @@ fn write_file<'w, F: Folders>(
     file: File,
     dir: &'w str,
     folders: &mut F,
+    memory: &mut Vec<u8>,
 ) -> Result<(), Refusal<'w>>
     ensures written { OnOk result (Writes (F.held folders.old) (F.held folders.new)
         dir.now (file_name file) (file_text (content_of_parts feed.now) file)) }
@@ -186,10 +201,33 @@ fn write_file<'w, F: Folders>(
     ensures last { F.failure_count folders.new ≢ F.failure_count folders.old
         → FailsAtLast (F.calls folders.new) }
 {
-    let text = feed.file_text(alloc, file)?;
+    let text = text_of_file(alloc, feed, file, memory)?;
     match folders.write(alloc, dir, file.name(), text.as_bytes()) {
         Ok(()) => Ok(()),
         Err(fault) => Err(of_writing(fault, dir)),
+    }
+}
+
+// The text of one file of a feed. That of stop_times.txt, which is the longest by far, takes this
+// memory.
+fn text_of_file(
+    alloc: Global,
+    feed: &Feed,
+    file: File,
+    memory: &mut Vec<u8>,
+) -> Result<String, OutOfMemory>
+    ensures text { IfOk result (λ text. text_of_table
+        (table_of (written (content_of_parts feed.now)) file) ≡ Some (string_bytes text)) }
+    ensures reads_back { IfOk result (λ text. table_of_bytes (Some (string_bytes text))
+        ≡ table_of (written (content_of_parts feed.now)) file) }
+    ensures form { IsWrittenForm (content_of_parts feed.now) }
+{
+    match file {
+        File::StopTimes => {
+            let bytes = mem::replace(memory, Vec::new(alloc));
+            feed.file_text_in(alloc, file, bytes)
+        }
+        _ => feed.file_text(alloc, file),
     }
 }
 

@@ -1,14 +1,12 @@
-use Rattle.std.proofs.Common.{◌∙◌, None, subst}
-use Rattle.std.specs.Prelude.{IfOk}
-use Rattle.gtfs_rows.specs.Views.{content_of_parts}
-use Rattle.gtfs_rows.specs.declared.parts.Parts.{Parts}
-use Rattle.gtfs_merge.specs.Merged.{zone_texts_differ}
-use Rattle.gtfs_merge.specs.Merging.{AreRowsOfMerge}
+use Rattle.std.proofs.Common.{◌≡◌, ◌∙◌, ap, length, subst, sym}
+use Rattle.std.specs.List.{All}
+use Rattle.gtfs_stop_times.specs.ByTrip.{StopTimesOfTrips}
+use Rattle.gtfs_stop_times.specs.Joined.{IsTripOf}
 use Rattle.gtfs_merge.proofs.merging.rows_of_pair.Goals as goal
 
-pub whole_rows-requires : goal.whole_rows-requires
-whole_rows-requires c = (λ i. zone_texts_differ (content_of_parts (c.as_ref.ensures i)) (content_of_parts (c.as_ref-2.ensures i))) ∙ c.requires
-
-pub returns : goal.returns
-returns c = subst (λ (f : Parts × Parts). IfOk c.whole_rows.result (AreRowsOfMerge c.args.random c.args.near None (content_of_parts f.0) (content_of_parts f.1)))
-    (λ i. (c.as_ref.ensures i, c.as_ref-2.ensures i)) c.whole_rows.ensures
+pub with_stop_times-requires-clause-trips : goal.with_stop_times-requires-clause-trips
+with_stop_times-requires-clause-trips c =
+    let first : c.as_ref.result.now.stop_times ≡ c.in_ok-first.first = ap (λ f. f.stop_times) c.as_ref.ensures ∙ sym c.in_ok-first.ensures in
+    let second : c.as_ref-2.result.now.stop_times ≡ c.in_ok-second.second = ap (λ f. f.stop_times) c.as_ref-2.ensures ∙ sym c.in_ok-second.ensures in
+    subst (λ (t : StopTimesOfTrips × StopTimesOfTrips). All (IsTripOf (length t.0.starts) (length t.1.starts)) c.in_ok-lists.lists.trips.items)
+    (λ i. (first i, second i)) c.in_ok-lists.ensures.trips

@@ -6,4 +6,4 @@ pub returns-in-Anywhere : goal.returns-in-Anywhere
 returns-in-Anywhere c =
     let rows = c.self.inside.rows.items in
     let sound = subst (AreSoundPlaces rows) c.in-Anywhere.is c.self.invariant in
-    sym sound.1 ∙ ap (λ p. length (at_places rows p).rows) (sym c.in-Anywhere.is) ∙ ap (λ t. length t.rows) c.self.view_is
+    sym sound.counted ∙ ap (λ p. length (at_places rows p).rows) (sym c.in-Anywhere.is) ∙ ap (λ t. length t.rows) c.self.view_is

@@ -1,12 +1,12 @@
 use Rattle.std.proofs.Common.{◌≡◌, ◌∙◌, ◌+◌, ℕ, Option, get_or, take, subst, refl, arith}
 use Rattle.gtfs_devices.specs.Device.{MakesSomeCalls}
 use Rattle.gtfs_devices.specs.Folder.{CountsFault, Store}
-use Rattle.gtfs_table.specs.Reading.{AllHoldWithin, HoldsTable, HoldsWithin, kept_files}
+use Rattle.gtfs_table.specs.Reading.{AllHoldWithin, HoldsTable, HoldsWithin, RefusesDataset, kept_files}
 use Rattle.gtfs_table.specs.declared.file.File.TheVariants as file
 use Rattle.gtfs_table.specs.Ending.{EndsAtFile}
 use Rattle.gtfs_table.specs.Files.{file_name}
 use Rattle.gtfs_table.proofs.EndingFacts.{ends-at, of-fault, refused-from}
-use Rattle.gtfs_table.proofs.FolderFacts.{calls-more, calls-none, calls-some, on_err-always, sets-none, sets-more, within-more, within-none}
+use Rattle.gtfs_table.proofs.FolderFacts.{calls-more, calls-none, calls-some, on_err-always, refused-read, sets-none, sets-more, within-more, within-none}
 use Rattle.gtfs_table.proofs.tables.Tables.read_files.Goals as goal
 
 pub loop-file-init : goal.loop-file-init
@@ -76,3 +76,17 @@ returns-in_err-table-clause-counts_fault g c =
     let fault = c.in_err-table.field-0.0 in
     of-fault c.from_residual.result (λ e. CountsFault e before after) fault c.from_residual.ensures.1
     (subst (λ (n : ℕ). CountsFault fault n after) c.loop-file.invariant.none c.in_err-table.ensures.counts_fault)
+
+pub returns-in_err-table-clause-refused : goal.returns-in_err-table-clause-refused
+returns-in_err-table-clause-refused g c =
+    let inv = c.loop-file.invariant in
+    let x = get_or kept_files c.loop-file.file-index file.Agency in
+    let dir = c.args.dir.now in
+    let held = g.F.Folders.held c.args.folders.now in
+    let limit = g.F.Folders.limit c.args.folders.now in
+    let before = g.F.Folders.failure_count c.args.folders.now in
+    let after = g.F.Folders.failure_count c.read_file.new.folders in
+    let fault = c.in_err-table.field-0.0 in
+    let refused = refused-from fault limit _ held _ dir (file_name x) before _ after inv.bound inv.same inv.none c.in_err-table.ensures.refused in
+    of-fault c.from_residual.result (λ e. RefusesDataset e limit held dir before after) fault c.from_residual.ensures.1
+    (refused-read fault limit held dir x before before after (omega arith) refused)

@@ -1,7 +1,0 @@
-use Rattle.std.proofs.Common.{◌≡◌, map, take}
-use Rattle.gtfs_stop_times.specs.ByTrip.{is_at}
-use Rattle.gtfs_stop_times.proofs.marks.marked.Given as goal
-
--- the rows so far are marked
-abbrev pub invariant-loop-row : goal.invariant-loop-row
-invariant-loop-row l = l.marks.items ≡ map (is_at l.stops) (take l.row-index l.rows)
