@@ -1,7 +1,6 @@
 -- The merge of two trimmed feeds is that of both feeds with a cutoff, and the feed of its rows is the merged feed.
 use Rattle.std.proofs.Common.{◌≡◌, ◌∙◌, ℕ, Bool, false, Option, Some, None, ap, sym, subst, ℤ}
 use Rattle.std.specs.Prelude.{IfErr, IfOk, Result, Ok, Err}
-use Rattle.std.specs.declared.random_state.RandomState.{RandomState}
 use Rattle.gtfs_days.specs.declared.cut.Cut.TheVariants.{Before, From}
 use Rattle.gtfs_rows.specs.Content.{Content}
 use Rattle.gtfs_rows.specs.Trimmed.{first_part, second_part, trimmed}
@@ -9,7 +8,7 @@ use Rattle.gtfs_rows.specs.Views.{content_of_parts}
 use Rattle.gtfs_rows.specs.declared.parts.Parts.{Parts}
 use Rattle.gtfs_merge.specs.Merged.{is_too_large, merged, zone_texts_differ}
 use Rattle.gtfs_merge.specs.Merging.{AreNamesOf, AreRowsOfMerge, IsFeedOf, IsLimitFault, IsMergeOf, IsRefusal}
-use Rattle.gtfs_merge.specs.Names.{AllNames, AreHashedBy}
+use Rattle.gtfs_merge.specs.Names.{AllNames}
 use Rattle.gtfs_merge.specs.Near.{nearness}
 use Rattle.gtfs_merge.specs.declared.merging.Merged.{Merged}
 use Rattle.gtfs_merge.specs.declared.merging.MergeFault.{MergeFault}
@@ -20,21 +19,20 @@ pub zone-told : (a b r s : Parts) (answer : Bool) → r ≡ a → s ≡ b → an
     → zone_texts_differ (content_of_parts a) (content_of_parts b) ≡ false
 zone-told a b r s answer is-a is-b told one = (λ i. zone_texts_differ (content_of_parts (sym is-a i)) (content_of_parts (sym is-b i))) ∙ sym told ∙ one
 
-module _ (random : RandomState) (near : Option ℕ) (day : ℤ) (a b first second : Content) (is_first : first ≡ trimmed (Before day) a) (is_second : second ≡ trimmed (From day) b) where
-  of-trimmed : (rows : Parts × AllNames) → AreRowsOfMerge random near None first second rows → AreRowsOfMerge random near (Some day) a b rows
+module _ (near : Option ℕ) (day : ℤ) (a b first second : Content) (is_first : first ≡ trimmed (Before day) a) (is_second : second ≡ trimmed (From day) b) where
+  of-trimmed : (rows : Parts × AllNames) → AreRowsOfMerge near None first second rows → AreRowsOfMerge near (Some day) a b rows
   of-trimmed rows are = record {
     sound = are.sound;
     content = are.content ∙ (λ i. merged (nearness near) (is_first i) (is_second i));
     names = subst (λ (f : Content × Content). AreNamesOf near f.0 f.1 rows.1) (λ i. (is_first i, is_second i)) are.names;
-    hashed = are.hashed;
   }
 
-  pub rows-of-trimmed : {E : Type 0} (r : Result (Parts × AllNames) E) → IfOk r (AreRowsOfMerge random near None first second) → IfOk r (AreRowsOfMerge random near (Some day) a b)
+  pub rows-of-trimmed : {E : Type 0} (r : Result (Parts × AllNames) E) → IfOk r (AreRowsOfMerge near None first second) → IfOk r (AreRowsOfMerge near (Some day) a b)
   rows-of-trimmed (Ok rows) are = of-trimmed rows are
   rows-of-trimmed (Err x) are = are
 
-module _ (random : RandomState) (near : Option ℕ) (cutoff : Option ℤ) (a b : Content) (zone : zone_texts_differ a b ≡ false) (limit : ℕ) (rows : Parts × AllNames)
-    (are : AreRowsOfMerge random near cutoff a b rows) where
+module _ (near : Option ℕ) (cutoff : Option ℤ) (a b : Content) (zone : zone_texts_differ a b ≡ false) (limit : ℕ) (rows : Parts × AllNames)
+    (are : AreRowsOfMerge near cutoff a b rows) where
   merge-of : (m : Merged) → IsFeedOf rows limit m → IsMergeOf near cutoff a b limit m
   merge-of m is = record {
     zone = zone;
@@ -55,7 +53,3 @@ module _ (random : RandomState) (near : Option ℕ) (cutoff : Option ℤ) (a b :
   pub refused-of-rows : (r : Result Merged MergeFault) → IfErr r (IsLimitFault (content_of_parts rows.0) limit) → IfErr r (IsRefusal near cutoff a b limit)
   refused-of-rows (Ok m) is = is
   refused-of-rows (Err x) is = refusal-of x is
-
-  pub hashed-of-rows : (r : Result Merged MergeFault) → IfOk r (IsFeedOf rows limit) → IfOk r (λ m. AreHashedBy random m.names)
-  hashed-of-rows (Ok m) is = subst (AreHashedBy random) (sym is.names) are.hashed
-  hashed-of-rows (Err x) is = is

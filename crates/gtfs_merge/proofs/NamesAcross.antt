@@ -2,7 +2,6 @@
 use Rattle.std.proofs.Common.{◌≡◌, ◌<◌, ◌+◌, ◌^◌, ℕ, Bool, true, false, List, [], ◌∷◌, Some, None, refl, sym, ap, ◌∙◌, subst, inl, inr, ◌⊎◌, length, filter, bytes_eq, true≢false, Option, is_some, arith}
 use Rattle.std.specs.Prelude.{if◌then◌else◌}
 use Rattle.std.proofs.lemmas.Bool.{or_cases, or_left, or_right}
-use Rattle.std.specs.declared.random_state.RandomState.{RandomState}
 use Rattle.gtfs_columns.proofs.SiteFacts.{text_is as same_bytes}
 use Rattle.gtfs_rows.specs.Content.{Content}
 use Rattle.gtfs_rows.specs.Views.{IsSoundParts, content_of_parts}
@@ -86,9 +85,9 @@ module _ (sides : Sides) (sound_a : IsSoundParts sides.a.now) (sound_b : IsSound
       let one : x ≡ y = apart-a a b sound_a.content sound_b.content k x y has_x there.0 (new_x ∙ sym kept ∙ sym stays) in
       (one ∙ kept, kept, subst (λ z. lists_id (joined_ids (nearness_of sides) k a b) z ≡ true) kept (has-filter (is_joined (nearness_of sides) k a b) (ids k a) y there.0 joined.0))
 
-  pub names-meet : (random : RandomState) (k : Kind) → may_meet sides.near k side.B ≡ false → (n : NamesOfKind) → n ≡ kind_names random k sides → MeetWhereJoined n
-  names-meet random k unmet n is x y name first second =
-      let told_x = named-there (names_a a b) k a x name (sym (named random (names_a a b) k sides.a.now sound_a x) ∙ ap (λ m. new_id m.a x) (sym is) ∙ first) in
-      let told_y = named-there (names_b (nearness_of sides) a b) k b y name (sym (named random (names_b (nearness_of sides) a b) k sides.b.now sound_b y) ∙ ap (λ m. new_id m.b y) (sym is) ∙ second) in
+  pub names-meet : (k : Kind) → may_meet sides.near k side.B ≡ false → (n : NamesOfKind) → n ≡ kind_names k sides → MeetWhereJoined n
+  names-meet k unmet n is x y name first second =
+      let told_x = named-there (names_a a b) k a x name (sym (named (names_a a b) k sides.a.now sound_a x) ∙ ap (λ m. new_id m.a x) (sym is) ∙ first) in
+      let told_y = named-there (names_b (nearness_of sides) a b) k b y name (sym (named (names_b (nearness_of sides) a b) k sides.b.now sound_b y) ∙ ap (λ m. new_id m.b y) (sym is) ∙ second) in
       let meet = met k unmet x y name told_x.0 told_y.0 told_x.1 told_y.1 in
       (meet.0, meet.1, ap (λ m. lists_id m.joined name) is ∙ meet.2)

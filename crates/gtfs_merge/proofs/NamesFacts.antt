@@ -3,7 +3,6 @@ use Rattle.std.proofs.Common.{◌≡◌, ◌<◌, ◌+◌, ◌++◌, ℕ, Bool, 
 use Rattle.std.specs.Prelude.{if◌then◌else◌}
 use Rattle.std.specs.List.{AllPairs, position, slice_get}
 use Rattle.std.specs.declared.cmp.Ordering.TheVariants.{Less}
-use Rattle.std.specs.declared.random_state.RandomState.{RandomState}
 use Rattle.std.proofs.Math.Seq.{take-suc}
 use Rattle.std.proofs.lemmas.List.{get_or-map, length-map}
 use Rattle.std.proofs.lemmas.List.Quantifiers.{position-Some}
@@ -21,7 +20,7 @@ use Rattle.gtfs_rows.proofs.ByKey.{by_key_is}
 use Rattle.gtfs_rows.proofs.Held.{text_antisymmetric}
 use Rattle.gtfs_rows.proofs.SameElements.{SameElements, contains-filter, contains-from_filter}
 use Rattle.gtfs_merge.specs.Departures.{StaysApart}
-use Rattle.gtfs_merge.specs.Names.{AllNames, AreHashedBy, AreKindNames, in_kind, kind_names, new_id, new_ids, of_side}
+use Rattle.gtfs_merge.specs.Names.{AllNames, in_kind, kind_names, new_id, new_ids, of_side}
 use Rattle.gtfs_merge.specs.Numbered.{known_ids}
 use Rattle.gtfs_merge.specs.Renaming.{lists_id, ids, name_of_id, Names, Renaming, renaming}
 use Rattle.gtfs_merge.specs.Sides.{is_joined_id, nearness_of, side_names, side_parts}
@@ -35,8 +34,8 @@ use Rattle.gtfs_merge.proofs.JoinedKinds.{ids-known}
 use Rattle.gtfs_merge.proofs.Premises.{by_id-ascending}
 use Rattle.gtfs_merge.proofs.RenamedLists.{ascend}
 
-looked-up : (random : RandomState) (rename : Renaming) (xs : List (List ℕ)) (x : List ℕ) → new_id (new_ids random rename xs) x ≡ (if lists_id xs x then Some (rename x) else None)
-looked-up random rename xs x = by (position (bytes_eq x) xs) refl
+looked-up : (rename : Renaming) (xs : List (List ℕ)) (x : List ℕ) → new_id (new_ids rename xs) x ≡ (if lists_id xs x then Some (rename x) else None)
+looked-up rename xs x = by (position (bytes_eq x) xs) refl
   where
     by : (o : Option ℕ) → position (bytes_eq x) xs ≡ o → option_and_then (slice_get (map rename xs)) (position (bytes_eq x) xs) ≡ (if lists_id xs x then Some (rename x) else None)
     by None e = ap (option_and_then (slice_get (map rename xs))) e ∙ ap (λ h. if h then Some (rename x) else None) (sym (ap is_some e) ∙ has-number xs x)
@@ -48,17 +47,17 @@ looked-up random rename xs x = by (position (bytes_eq x) xs) refl
         ∙ ap Some (get_or-map rename xs n [] [] there.0 ∙ ap rename (sym (same_bytes x (get_or xs n []) there.1)))
         ∙ ap (λ h. if h then Some (rename x) else None) (sym (ap is_some e) ∙ has-number xs x)
 
-pub named : (random : RandomState) (n : Names) (k : Kind) (p : Parts) → IsSoundParts p → (x : List ℕ) → new_id (new_ids random (renaming n k) (known_ids k p)) x ≡ name_of_id n k (content_of_parts p) x
-named random n k p sound x = looked-up random (renaming n k) (known_ids k p) x ∙ ap (λ xs. if lists_id xs x then Some (renaming n k x) else None) (sym (ids-known k p sound))
+pub named : (n : Names) (k : Kind) (p : Parts) → IsSoundParts p → (x : List ℕ) → new_id (new_ids (renaming n k) (known_ids k p)) x ≡ name_of_id n k (content_of_parts p) x
+named n k p sound x = looked-up (renaming n k) (known_ids k p) x ∙ ap (λ xs. if lists_id xs x then Some (renaming n k x) else None) (sym (ids-known k p sound))
 
 -- a name by its number
-pub name-at : (random : RandomState) (k : Kind) (sides : Sides) (s : Side) (n : ℕ) → n < length (known_ids k (side_parts s sides)) → get_or (of_side (kind_names random k sides) s).names n [] ≡ renaming (side_names s sides) k (get_or (known_ids k (side_parts s sides)) n [])
-name-at random k sides side.A n within = get_or-map (renaming (side_names side.A sides) k) (known_ids k sides.a.now) n [] [] within
-name-at random k sides side.B n within = get_or-map (renaming (side_names side.B sides) k) (known_ids k sides.b.now) n [] [] within
+pub name-at : (k : Kind) (sides : Sides) (s : Side) (n : ℕ) → n < length (known_ids k (side_parts s sides)) → get_or (of_side (kind_names k sides) s).names n [] ≡ renaming (side_names s sides) k (get_or (known_ids k (side_parts s sides)) n [])
+name-at k sides side.A n within = get_or-map (renaming (side_names side.A sides) k) (known_ids k sides.a.now) n [] [] within
+name-at k sides side.B n within = get_or-map (renaming (side_names side.B sides) k) (known_ids k sides.b.now) n [] [] within
 
-pub names-count : (random : RandomState) (k : Kind) (sides : Sides) (s : Side) → length (of_side (kind_names random k sides) s).names ≡ length (known_ids k (side_parts s sides))
-names-count random k sides side.A = length-map (known_ids k sides.a.now) (renaming (side_names side.A sides) k)
-names-count random k sides side.B = length-map (known_ids k sides.b.now) (renaming (side_names side.B sides) k)
+pub names-count : (k : Kind) (sides : Sides) (s : Side) → length (of_side (kind_names k sides) s).names ≡ length (known_ids k (side_parts s sides))
+names-count k sides side.A = length-map (known_ids k sides.a.now) (renaming (side_names side.A sides) k)
+names-count k sides side.B = length-map (known_ids k sides.b.now) (renaming (side_names side.B sides) k)
 
 pub joined-further : (p : List ℕ → Bool) (xs : List (List ℕ)) (n : ℕ) (before after : List (List ℕ)) (x : List ℕ) → n < length xs → before ≡ filter p (take n xs) → after ≡ before ++ filter p (x ∷ []) → x ≡ get_or xs n []
     → after ≡ filter p (take (n + 1) xs)
@@ -93,19 +92,11 @@ apart-names n k f apart x y name = by (lists_id (ids k f) x) refl (lists_id (ids
     by false has_x g has_y first second = cc
 
 -- the names of all kinds
-pub each-kind : (random : RandomState) (sides : Sides) (n : AllNames) → n.agencies ≡ kind_names random kind.Agency sides → n.stops ≡ kind_names random kind.Stop sides
-    → n.routes ≡ kind_names random kind.Route sides → n.services ≡ kind_names random kind.Service sides → n.trips ≡ kind_names random kind.Trip sides
-    → (k : Kind) → in_kind n k ≡ kind_names random k sides
-each-kind random sides n agencies stops routes services trips kind.Agency = agencies
-each-kind random sides n agencies stops routes services trips kind.Stop = stops
-each-kind random sides n agencies stops routes services trips kind.Route = routes
-each-kind random sides n agencies stops routes services trips kind.Service = services
-each-kind random sides n agencies stops routes services trips kind.Trip = trips
-
-module _ (random : RandomState) (sides : Sides) (n : AllNames) (each : (k : Kind) → in_kind n k ≡ kind_names random k sides) where
-  pub kinds-named : AreKindNames sides n
-  kinds-named k = each k ∙ ap (λ r. kind_names r k sides) (sym (ap (λ m. m.a.random) (each k)))
-
-  pub hashed-by : AreHashedBy random n
-  hashed-by k side.A = ap (λ m. m.a.random) (each k)
-  hashed-by k side.B = ap (λ m. m.b.random) (each k)
+pub each-kind : (sides : Sides) (n : AllNames) → n.agencies ≡ kind_names kind.Agency sides → n.stops ≡ kind_names kind.Stop sides
+    → n.routes ≡ kind_names kind.Route sides → n.services ≡ kind_names kind.Service sides → n.trips ≡ kind_names kind.Trip sides
+    → (k : Kind) → in_kind n k ≡ kind_names k sides
+each-kind sides n agencies stops routes services trips kind.Agency = agencies
+each-kind sides n agencies stops routes services trips kind.Stop = stops
+each-kind sides n agencies stops routes services trips kind.Route = routes
+each-kind sides n agencies stops routes services trips kind.Service = services
+each-kind sides n agencies stops routes services trips kind.Trip = trips

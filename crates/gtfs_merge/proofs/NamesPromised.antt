@@ -32,10 +32,10 @@ module _ (sides : Sides) (sound_a : IsSoundParts sides.a.now) (sound_b : IsSound
   ids-b k = ap (λ t. t.b.ids) (are k) ∙ sym (ids-known k sides.b.now sound_b)
 
   named-a : (k : Kind) (x : List ℕ) → new_id (in_kind names k).a x ≡ name_of_id (names_a a b) k a x
-  named-a k x = ap (λ t. new_id t.a x) (are k) ∙ named (in_kind names k).a.random (names_a a b) k sides.a.now sound_a x
+  named-a k x = ap (λ t. new_id t.a x) (are k) ∙ named (names_a a b) k sides.a.now sound_a x
 
   named-b : (k : Kind) (x : List ℕ) → new_id (in_kind names k).b x ≡ name_of_id (names_b (nearness_of sides) a b) k b x
-  named-b k x = ap (λ t. new_id t.b x) (are k) ∙ named (in_kind names k).a.random (names_b (nearness_of sides) a b) k sides.b.now sound_b x
+  named-b k x = ap (λ t. new_id t.b x) (are k) ∙ named (names_b (nearness_of sides) a b) k sides.b.now sound_b x
 
   are-few : (k : Kind) → AreFew k a b
   are-few k = let below = few k in omega (arith, below)
@@ -53,7 +53,7 @@ module _ (sides : Sides) (sound_a : IsSoundParts sides.a.now) (sound_b : IsSound
     a = named-a;
     b = named-b;
     apart = apart;
-    across = λ k unmet. names-meet sides sound_a sound_b few (in_kind names k).a.random k unmet (in_kind names k) (are k);
+    across = λ k unmet. names-meet sides sound_a sound_b few k unmet (in_kind names k) (are k);
     joined = λ k. ap (λ t. t.joined) (are k);
     near = near;
   }

@@ -1,37 +1,24 @@
--- Ids of a kind, put into a table with what each became.
-use Rattle.std.proofs.Common.{◌≡◌, ◌<◌, ◌≤◌, ◌+◌, ℕ, Bool, zero, suc, true, false, List, [], ◌∷◌, ◌++◌, Some, None, Option, refl, sym, ap, ◌∙◌, length, map, take, get_or, bytes_eq, option_map, option_and_then, add-one, true≢false, arith}
-use Rattle.std.specs.Prelude.{if◌then◌else◌, ◌||◌, String, string_bytes}
-use Rattle.std.specs.List.{AllPairs, list_any, position, slice_get}
+-- Ids of a kind, and what each became.
+use Rattle.std.proofs.Common.{◌≡◌, ◌<◌, ◌≤◌, ◌+◌, ℕ, List, [], ◌∷◌, ◌++◌, Some, None, Option, refl, sym, ap, ◌∙◌, length, map, take, get_or, bytes_eq, min, option_and_then, length-append, arith}
+use Rattle.std.specs.Prelude.{String, zip}
+use Rattle.std.specs.List.{AllPairs, position, slice_get}
 use Rattle.std.specs.declared.cmp.Ordering.TheVariants.{Less}
-use Rattle.std.specs.declared.random_state.RandomState.{RandomState}
-use Rattle.std.proofs.Math.Seq.{take-suc}
-use Rattle.std.proofs.lemmas.List.{map-append, take_all}
-use Rattle.std.proofs.lemmas.Option.{get_or_from_slice_get, slice_get-map as slice_get-mapped}
-use Rattle.indexmap.specs.IndexMap.{insert_entry}
-use Rattle.gtfs_field.proofs.ListFacts.{position-map as position-mapped}
+use Rattle.std.proofs.lemmas.List.{get_or-map, length-map, length-take-le, map_push, take_all, take_more}
+use Rattle.std.proofs.lemmas.List.Quantifiers.{position-Some}
+use Rattle.std.proofs.lemmas.Option.{slice_get-get_or}
+use Rattle.std.proofs.lemmas.Slice.Zip.{get_or-zip, length-zip}
 use Rattle.gtfs_field.specs.TextOrder.{text_cmp}
-use Rattle.gtfs_rows.proofs.Held.{apart_turned}
-use Rattle.gtfs_rows.proofs.SameElements.{pairs-head, pairs-map, pairs-tail}
+use Rattle.gtfs_rows.proofs.SameElements.{pairs-map}
 use Rattle.gtfs_rows.specs.declared.parts.Parts.{Parts}
 use Rattle.gtfs_rows.specs.Views.{IsSoundParts}
 use Rattle.gtfs_rows.proofs.SoundOrder.{in_order}
-use Rattle.gtfs_merge.specs.Names.{NewIds, name_or, new_id, new_ids, with_id}
+use Rattle.gtfs_merge.specs.Names.{NewIds, name_or, names_or, new_id}
 use Rattle.gtfs_merge.specs.Numbered.{known_ids}
 use Rattle.gtfs_merge.specs.Renaming.{Renaming}
 use Rattle.gtfs_merge.specs.declared.kind.Kind.{Kind}
 use Rattle.gtfs_merge.specs.declared.kind.Kind.TheVariants as kind
 
-abbrev pub new_ids_of : RandomState → List (List ℕ) → List (List ℕ) → NewIds
-new_ids_of random ids names = record { ids = ids; names = names; random = random }
-
--- ---- ids of a kind ascend, so no id stands twice
-
-texts-fresh : (ts : List (List ℕ)) (i : ℕ) → AllPairs (λ s t. text_cmp s t ≡ Less) ts → i < length ts → list_any (bytes_eq (get_or ts i [])) (take i ts) ≡ false
-texts-fresh [] i up within = absurd (omega arith)
-texts-fresh (t ∷ ts) zero up within = refl
-texts-fresh (t ∷ ts) (suc i) up within =
-    let inside : i < length ts = omega arith in
-    rw (apart_turned t (get_or ts i []) (pairs-head (λ s t. text_cmp s t ≡ Less) t ts up i [] inside)) (texts-fresh ts i (pairs-tail (λ s t. text_cmp s t ≡ Less) t ts up) inside)
+-- ---- ids of a kind ascend
 
 pub ascend : (k : Kind) (p : Parts) → IsSoundParts p → AllPairs (λ s t. text_cmp s t ≡ Less) (known_ids k p)
 ascend kind.Agency p sound = pairs-map (λ r. r.agency_id) (λ s t. text_cmp s t ≡ Less) p.agencies (in_order p sound).agencies
@@ -40,63 +27,72 @@ ascend kind.Route p sound = pairs-map (λ r. r.route_id) (λ s t. text_cmp s t �
 ascend kind.Service p sound = pairs-map (λ r. r.service_id) (λ s t. text_cmp s t ≡ Less) p.services (in_order p sound).services
 ascend kind.Trip p sound = pairs-map (λ r. r.trip_id) (λ s t. text_cmp s t ≡ Less) p.trips (in_order p sound).trips
 
--- the id of a number is none of those before it
-pub known-fresh : (random : RandomState) (k : Kind) (p : Parts) → IsSoundParts p → (n : ℕ) (rename : Renaming) (table : NewIds) (id : List ℕ) → n < length (known_ids k p) → table ≡ new_ids random rename (take n (known_ids k p)) → id ≡ get_or (known_ids k p) n []
-    → list_any (bytes_eq id) table.ids ≡ false
-known-fresh random k p sound n rename table id within is own =
-    (λ i. list_any (bytes_eq (own i)) (is i).ids) ∙ texts-fresh (known_ids k p) n (ascend k p sound) within
+-- ---- the other texts of the first ids, one more in each turn
 
--- ---- the loop
+zip-push : {X Y : Type 0} (xs : List X) (ys : List Y) (x : X) (y : Y) → length ys ≡ length xs → zip (xs ++ x ∷ []) (ys ++ y ∷ []) ≡ zip xs ys ++ (x, y) ∷ []
+zip-push [] [] x y same = refl
+zip-push [] (z ∷ ys) x y same = absurd (omega (arith, same))
+zip-push (z ∷ xs) [] x y same = absurd (omega (arith, same))
+zip-push (v ∷ xs) (w ∷ ys) x y same = ap (λ r. (v, w) ∷ r) (zip-push xs ys x y (omega (arith, same)))
 
-pub renamed-more : (random : RandomState) (rename : Renaming) (ids : List (List ℕ)) (n : ℕ) (before after : NewIds) (id name : List ℕ) → n < length ids → before ≡ new_ids random rename (take n ids) → after ≡ with_id before id name
-    → id ≡ get_or ids n [] → name ≡ rename (get_or ids n []) → after ≡ new_ids random rename (take (n + 1) ids)
-renamed-more random rename ids n before after id name within so_far pushed own renamed =
-    let one : take (n + 1) ids ≡ take n ids ++ get_or ids n [] ∷ [] = ap (λ m. take m ids) (add-one n) ∙ take-suc ids n [] within in
-    pushed ∙ (λ i. with_id (so_far i) (own i) (renamed i))
-    ∙ (λ i. record { ids = take n ids ++ get_or ids n [] ∷ []; names = sym (map-append rename (take n ids) (get_or ids n [] ∷ [])) i; random = random })
-    ∙ ap (new_ids random rename) (sym one)
+module _ {A : Type 0} (rename : Renaming) (ids : List (List ℕ)) where
+  -- these are the other texts of so many ids
+  pub record AreNamed (n : ℕ) (names : List (Option (String A))) : Type 0 where
+    pub few : n ≤ length ids
+    pub count : length names ≡ n
+    pub named : names_or (take n ids) names ≡ map rename (take n ids)
 
-pub renamed-all : (random : RandomState) (rename : Renaming) (ids : List (List ℕ)) (n : ℕ) → length ids ≤ n → new_ids random rename (take n ids) ≡ new_ids random rename ids
-renamed-all random rename ids n past = ap (new_ids random rename) (take_all n ids past)
+  pub none-named : (names : List (Option (String A))) → names ≡ [] → AreNamed 0 names
+  none-named names none = record { few = omega arith; count = ap length none; named = refl }
 
--- ---- a table as the code keeps it: each id with its other text, if it has one
+  pub one-named : (n : ℕ) (before after : List (Option (String A))) (id : List ℕ) (name : Option (String A)) → n < length ids → AreNamed n before → after ≡ before ++ name ∷ [] → id ≡ get_or ids n [] → name_or id name ≡ rename id
+      → AreNamed (n + 1) after
+  one-named n before after id name within so_far pushed own renamed =
+      let f = λ (p : List ℕ × Option (String A)). name_or p.0 p.1 in
+      let one : take (n + 1) ids ≡ take n ids ++ id ∷ [] = take_more ids n [] within ∙ ap (λ x. take n ids ++ x ∷ []) (sym own) in
+      let even : length before ≡ length (take n ids) = so_far.count ∙ sym (length-take-le n ids (omega (arith, within))) in
+      record {
+        few = omega (arith, within);
+        count = omega (arith, ap length pushed, length-append before (name ∷ []), so_far.count);
+        named = (λ i. map f (zip (one i) (pushed i)))
+            ∙ ap (map f) (zip-push (take n ids) before id name even)
+            ∙ map_push f (zip (take n ids) before) (id, name)
+            ∙ (λ i. so_far.named i ++ renamed i ∷ [])
+            ∙ sym (map_push rename (take n ids) id)
+            ∙ ap (map rename) (sym one);
+      }
 
-abbrev pub entry_id : {A : Type 0} → String A × Option (String A) → List ℕ
-entry_id e = string_bytes e.0
+  pub all-named : (n : ℕ) (names : List (Option (String A))) → length ids ≤ n → AreNamed n names → (length names ≡ length ids) × (names_or ids names ≡ map rename ids)
+  all-named n names past are =
+      let whole : take n ids ≡ ids = take_all n ids past in
+      (omega (arith, past, are.few, are.count), ap (λ xs. names_or xs names) (sym whole) ∙ are.named ∙ ap (map rename) whole)
 
-abbrev pub entry_name : {A : Type 0} → String A × Option (String A) → List ℕ
-entry_name e = name_or (string_bytes e.0) e.1
+-- ---- names as the code keeps them: each id, and its other text, if it has one
 
--- an id that is not there goes last
-pub new-last : {K V : Type 0} (eq : K → K → Bool) (k : K) (v : V) (es : List (K × V)) → list_any (λ e. eq k e.0) es ≡ false → insert_entry eq es k v ≡ es ++ (k, v) ∷ []
-new-last eq k v [] none = refl
-new-last eq k v (e ∷ es) none = by (new-last eq k v es) (eq k e.0) refl none
-  where
-    by : (list_any (λ f. eq k f.0) es ≡ false → insert_entry eq es k v ≡ es ++ (k, v) ∷ []) → (b : Bool) → eq k e.0 ≡ b → (b || list_any (λ f. eq k f.0) es) ≡ false → insert_entry eq (e ∷ es) k v ≡ e ∷ es ++ (k, v) ∷ []
-    by rest true at h = absurd (true≢false h)
-    by rest false at h = ap (λ b. if b then (e.0, v) ∷ es else e ∷ insert_entry eq es k v) at ∙ ap (λ l. e ∷ l) (rest h)
-
-module _ {A : Type 0} where
-  pub table-more : (entries after : List (String A × Option (String A))) (e : String A × Option (String A)) → after ≡ entries ++ e ∷ [] → (random random_after : RandomState) → random_after ≡ random
-      → (table : NewIds) → new_ids_of random (map entry_id entries) (map entry_name entries) ≡ table → new_ids_of random_after (map entry_id after) (map entry_name after) ≡ with_id table (entry_id e) (entry_name e)
-  table-more entries after e more random random_after same table is =
-      (λ i. new_ids_of (same i) (map entry_id (more i)) (map entry_name (more i)))
-      ∙ (λ i. new_ids_of random (map-append entry_id entries (e ∷ []) i) (map-append entry_name entries (e ∷ []) i))
-      ∙ ap (λ t. with_id t (entry_id e) (entry_name e)) is
-
-  -- what a table tells of an id that was looked up
-  pub told-name : (entries : List (String A × Option (String A))) (x : List ℕ) (random : RandomState) (table : NewIds) → new_ids_of random (map entry_id entries) (map entry_name entries) ≡ table
-      → (o : Option ℕ) → o ≡ position (λ k. bytes_eq x (string_bytes k)) (map (λ e. e.0) entries) → option_and_then (λ n. option_map entry_name (slice_get entries n)) o ≡ new_id table x
-  told-name entries x random table is o found =
-      at o ∙ ap (option_and_then (slice_get (map entry_name entries)))
-      (found ∙ position-mapped (λ k. bytes_eq x (string_bytes k)) (λ e. e.0) entries ∙ sym (position-mapped (bytes_eq x) entry_id entries)) ∙ ap (λ t. new_id t x) is
+module _ {A : Type 0} (ids : List (List ℕ)) (names : List (Option (String A))) (count : length names ≡ length ids) (table : NewIds) (is : record { ids = ids; names = names_or ids names } ≡ table) where
+  pub names-counted : length table.names ≡ length ids
+  names-counted = ap (λ t. length t.names) (sym is) ∙ length-map (zip ids names) (λ p. name_or p.0 p.1) ∙ length-zip ids names ∙ even (length ids) (length names) count
     where
-      at : (o : Option ℕ) → option_and_then (λ n. option_map entry_name (slice_get entries n)) o ≡ option_and_then (slice_get (map entry_name entries)) o
-      at None = refl
-      at (Some n) = sym (slice_get-mapped entry_name entries n)
+      even : (n m : ℕ) → m ≡ n → min n m ≡ n
+      even n m same = omega (arith, same)
 
   -- the name of a number
-  pub name-of : (entries : List (String A × Option (String A))) (n : ℕ) (random : RandomState) (table : NewIds) → new_ids_of random (map entry_id entries) (map entry_name entries) ≡ table
-      → (e : String A × Option (String A)) → Some e ≡ slice_get entries n → entry_name e ≡ get_or table.names n []
-  name-of entries n random table is e found =
-      sym (get_or_from_slice_get (map entry_name entries) n (entry_name e) [] (slice_get-mapped entry_name entries n ∙ sym (ap (option_map entry_name) found))) ∙ ap (λ t. get_or t.names n []) is
+  pub name-of : (n : ℕ) → n < length ids → (id c : List ℕ) (name d : Option (String A)) → id ≡ get_or ids n c → name ≡ get_or names n d → name_or id name ≡ get_or table.names n []
+  name-of n within id c name d own other =
+      let f = λ (p : List ℕ × Option (String A)). name_or p.0 p.1 in
+      (λ i. name_or (own i) (other i))
+      ∙ ap f (sym (get_or-zip ids names n (c, d) within (omega (arith, within, count))))
+      ∙ sym (get_or-map f (zip ids names) n (c, d) [] (omega (arith, within, count, length-zip ids names)))
+      ∙ ap (λ t. get_or t.names n []) is
+
+  -- an id that was found at a number
+  pub found-within : (x : List ℕ) (n : ℕ) → position (bytes_eq x) ids ≡ Some n → n < length table.names
+  found-within x n found = omega (arith, names-counted, (position-Some (bytes_eq x) ids n [] found).0)
+
+  pub name-found : (x : List ℕ) (n : ℕ) → position (bytes_eq x) ids ≡ Some n → Some (get_or table.names n []) ≡ new_id table x
+  name-found x n found =
+      sym (slice_get-get_or table.names n [] (found-within x n found))
+      ∙ ap (option_and_then (slice_get table.names)) (sym found ∙ ap (λ t. position (bytes_eq x) t.ids) is)
+
+  pub name-missing : (x : List ℕ) → position (bytes_eq x) ids ≡ None → None ≡ new_id table x
+  name-missing x missing = ap (option_and_then (slice_get table.names)) (sym missing ∙ ap (λ t. position (bytes_eq x) t.ids) is)

@@ -1,7 +1,6 @@
 -- What a merge answers.
 use Rattle.std.specs.Prelude.{◌≡◌, ⊤, ℕ, true, false, List, None, Option, ℤ, length}
 use Rattle.std.specs.List.{All}
-use Rattle.std.specs.declared.random_state.RandomState.{RandomState}
 use Rattle.csv.specs.Records.{Rising}
 use Rattle.gtfs_rows.specs.Content.{Content}
 use Rattle.gtfs_rows.specs.Trimmed.{first_part, second_part}
@@ -14,7 +13,7 @@ use Rattle.gtfs_merge.specs.Law.{SharesExactly}
 use Rattle.gtfs_times.specs.declared.times.Times.{Times}
 use Rattle.gtfs_merge.specs.MergedLists.{all_parts}
 use Rattle.gtfs_merge.specs.Merged.{is_too_large, zone_texts_differ}
-use Rattle.gtfs_merge.specs.Names.{AllNames, AreApart, AreHashedBy, MeetWhereJoined, in_kind, may_meet, new_id, of_side}
+use Rattle.gtfs_merge.specs.Names.{AllNames, AreApart, MeetWhereJoined, in_kind, may_meet, new_id, of_side}
 use Rattle.gtfs_merge.specs.Near.{near_pairs, nearness}
 use Rattle.gtfs_merge.specs.Renaming.{ids, joined_ids, name_of_id, names_a, names_b}
 use Rattle.gtfs_merge.specs.declared.kind.Kind.{Kind}
@@ -55,19 +54,18 @@ IsRefusal near cutoff a b limit fault.OutOfMemory = zone_texts_differ a b ≡ fa
 
 -- ---- what the parts of the work give
 
--- the rows of the merged feed, which make a feed, and what the ids of both feeds became, which are hashed by the random state
-pub record AreRowsOfMerge (random : RandomState) (near : Option ℕ) (cutoff : Option ℤ) (a b : Content) (rows : Parts × AllNames) : Type 0 where
+-- the rows of the merged feed, which make a feed, and what the ids of both feeds became
+pub record AreRowsOfMerge (near : Option ℕ) (cutoff : Option ℤ) (a b : Content) (rows : Parts × AllNames) : Type 0 where
   pub sound : IsSoundParts rows.0
   pub content : content_of_parts rows.0 ≡ merged_as near cutoff a b
   pub names : AreNamesOf near (first_part cutoff a) (second_part cutoff b) rows.1
-  pub hashed : AreHashedBy random rows.1
 
 -- with the stop times of both feeds these lists are the rows of the merged feed
-pub record AreListsOfPair (random : RandomState) (near : Option ℕ) (a b : Parts) (lists : MergedLists × AllNames) : Type 0 where
+pub record AreListsOfPair (near : Option ℕ) (a b : Parts) (lists : MergedLists × AllNames) : Type 0 where
   pub first : Rising 0 a.stop_times.starts (length a.stop_times.rows)
   pub second : Rising 0 b.stop_times.starts (length b.stop_times.rows)
   pub trips : All (IsTripOf (length a.stop_times.starts) (length b.stop_times.starts)) lists.0.trips.items
-  pub rows : AreRowsOfMerge random near None (content_of_parts a) (content_of_parts b) (all_parts lists.0 a.stop_times b.stop_times, lists.1)
+  pub rows : AreRowsOfMerge near None (content_of_parts a) (content_of_parts b) (all_parts lists.0 a.stop_times b.stop_times, lists.1)
 
 -- the feed of these rows, with these names, of which no written file is longer than the limit
 pub record IsFeedOf (rows : Parts × AllNames) (limit : ℕ) (m : Merged) : Type 0 where

@@ -1,6 +1,5 @@
 -- What ids became.
-use Rattle.std.specs.Prelude.{◌≡◌, ℕ, ◌==◌, Bool, true, false, List, ◌∷◌, ◌++◌, [], length, map, bytes_eq, position, slice_get, Option, Some, None, option_and_then, is_some, String, string_bytes}
-use Rattle.std.specs.declared.random_state.RandomState.{RandomState}
+use Rattle.std.specs.Prelude.{◌≡◌, ℕ, ◌==◌, Bool, true, false, List, length, map, zip, bytes_eq, position, slice_get, Option, Some, None, option_and_then, is_some, String, string_bytes}
 use Rattle.gtfs_merge.specs.Near.{near_pairs}
 use Rattle.gtfs_merge.specs.Numbered.{known_ids}
 use Rattle.gtfs_merge.specs.Renaming.{Renaming, lists_id, joined_ids, renaming}
@@ -24,18 +23,17 @@ abbrev pub name_or : {A : Type 0} → List ℕ → Option (String A) → List �
 name_or id None = id
 name_or id (Some name) = string_bytes name
 
+-- what each of these ids became, where these are their other texts
+abbrev pub names_or : {A : Type 0} → List (List ℕ) → List (Option (String A)) → List (List ℕ)
+names_or ids names = map (λ p. name_or p.0 p.1) (zip ids names)
+
 -- the ids of one kind of a feed, and what each became
 pub record NewIds : Type 0 where
   pub ids : List (List ℕ)
   pub names : List (List ℕ)
-  -- what the ids are hashed by
-  pub random : RandomState
 
-abbrev pub new_ids : RandomState → Renaming → List (List ℕ) → NewIds
-new_ids random rename ids = record { ids = ids; names = map rename ids; random = random }
-
-abbrev pub with_id : NewIds → List ℕ → List ℕ → NewIds
-with_id n id name = record { ids = n.ids ++ id ∷ []; names = n.names ++ name ∷ []; random = n.random }
+abbrev pub new_ids : Renaming → List (List ℕ) → NewIds
+new_ids rename ids = record { ids = ids; names = map rename ids }
 
 -- what an id became, nothing where it is not there
 abbrev pub new_id : NewIds → List ℕ → Option (List ℕ)
@@ -76,10 +74,10 @@ of_side n side.B = n.b
 abbrev pub MeetWhereJoined : NamesOfKind → Type 0
 MeetWhereJoined n = (x y name : List ℕ) → new_id n.a x ≡ Some name → new_id n.b y ≡ Some name → (x ≡ name) × (y ≡ name) × (lists_id n.joined name ≡ true)
 
-abbrev pub kind_names : RandomState → Kind → Sides → NamesOfKind
-kind_names random k sides = record {
-  a = new_ids random (renaming (side_names side.A sides) k) (known_ids k sides.a.now);
-  b = new_ids random (renaming (side_names side.B sides) k) (known_ids k sides.b.now);
+abbrev pub kind_names : Kind → Sides → NamesOfKind
+kind_names k sides = record {
+  a = new_ids (renaming (side_names side.A sides) k) (known_ids k sides.a.now);
+  b = new_ids (renaming (side_names side.B sides) k) (known_ids k sides.b.now);
   joined = joined_ids (nearness_of sides) k (content_a sides) (content_b sides);
 }
 
@@ -92,15 +90,11 @@ may_meet near kind.Route side.B = false
 may_meet near kind.Service side.B = false
 may_meet near kind.Trip side.B = false
 
--- the names of two feeds, of each kind, whatever their ids are hashed by
+-- the names of two feeds, of each kind
 abbrev pub AreKindNames : Sides → AllNames → Type 0
-AreKindNames sides n = (k : Kind) → in_kind n k ≡ kind_names (in_kind n k).a.random k sides
-
--- the ids of each kind of both feeds are hashed by this state
-abbrev pub AreHashedBy : RandomState → AllNames → Type 0
-AreHashedBy random n = (k : Kind) (s : Side) → (of_side (in_kind n k) s).random ≡ random
+AreKindNames sides n = (k : Kind) → in_kind n k ≡ kind_names k sides
 
 -- the names of each kind, and the near stops
-pub record ArePairedNames (random : RandomState) (sides : Sides) (n : AllNames) : Type 0 where
-  pub kinds : (k : Kind) → in_kind n k ≡ kind_names random k sides
+pub record ArePairedNames (sides : Sides) (n : AllNames) : Type 0 where
+  pub kinds : AreKindNames sides n
   pub near : n.near ≡ near_pairs (nearness_of sides) (content_a sides) (content_b sides)

@@ -53,8 +53,6 @@ pub use Rattle.gtfs_merge.specs.Names.{in_kind}
 pub use Rattle.gtfs_merge.specs.Names.{of_side}
 -- what an id became, none where the feed has no such id
 pub use Rattle.gtfs_merge.specs.Names.{new_id}
--- one random state hashes all of these ids
-pub use Rattle.gtfs_merge.specs.Names.{AreHashedBy}
 -- the word for a kind: agency, stop, route, service or trip
 pub use Rattle.gtfs_merge.specs.Report.{kind_name}
 -- the letter of a feed: A or B

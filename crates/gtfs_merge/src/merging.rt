@@ -5,7 +5,6 @@ ghost use Rattle.gtfs_days.specs.Service.{is_service_day};
 ghost use Rattle.gtfs_rows.specs.Trimmed.{trimmed};
 ghost use Rattle.gtfs_rows.specs.Views.{IsSoundParts, content_of_parts};
 ghost use Rattle.gtfs_merge.specs.Merged.{zone_texts_differ};
-ghost use Rattle.gtfs_merge.specs.Names.{AreHashedBy};
 ghost use Rattle.gtfs_merge.specs.Merging.{AreListsOfPair, AreRowsOfMerge, IsFeedOf, IsLimitFault, IsMergeOf, IsRefusal, KeepsDepartures};
 
 use crate::merged_lists::MergedLists;
@@ -125,7 +124,6 @@ pub fn merge(
         (content_of_parts a.now) (content_of_parts b.now) options.now.file_limit) }
     ensures departures { KeepsDepartures options.now.near options.now.cutoff
         (content_of_parts a.now) (content_of_parts b.now) }
-    ensures hashed { IfOk result (λ merged. AreHashedBy random merged.names) }
 {
     let sides = Sides {
         a,
@@ -156,7 +154,6 @@ pub fn merge_owned(
         (content_of_parts a) (content_of_parts b) options.now.file_limit) }
     ensures departures { KeepsDepartures options.now.near options.now.cutoff
         (content_of_parts a) (content_of_parts b) }
-    ensures hashed { IfOk result (λ merged. AreHashedBy random merged.names) }
 {
     let sides = Sides {
         a: &a,
@@ -183,7 +180,6 @@ fn judged(
     ensures refused { IfErr result (IsRefusal options.now.near options.now.cutoff
         (content_of_parts (cow_value a.entry)) (content_of_parts (cow_value b.entry))
         options.now.file_limit) }
-    ensures hashed { IfOk result (λ merged. AreHashedBy random merged.names) }
 {
     if zones_differ(a.as_ref(), b.as_ref()) {
         return Err(MergeFault::ZoneDiffers);
@@ -203,7 +199,7 @@ fn rows_of(
     requires zone { zone_texts_differ (content_of_parts (cow_value a))
         (content_of_parts (cow_value b)) ≡ false }
     requires cutoff { IfSome options.now.cutoff (λ d. is_service_day d ≡ true) }
-    ensures { IfOk result (AreRowsOfMerge random options.now.near options.now.cutoff
+    ensures { IfOk result (AreRowsOfMerge options.now.near options.now.cutoff
         (content_of_parts (cow_value a.entry)) (content_of_parts (cow_value b.entry))) }
 {
     match options.cutoff {
@@ -225,7 +221,7 @@ fn rows_cut_at(
     requires zone { zone_texts_differ (content_of_parts (cow_value a))
         (content_of_parts (cow_value b)) ≡ false }
     requires day { is_service_day day ≡ true }
-    ensures { IfOk result (AreRowsOfMerge random near (Some day)
+    ensures { IfOk result (AreRowsOfMerge near (Some day)
         (content_of_parts (cow_value a.entry)) (content_of_parts (cow_value b.entry))) }
 {
     let first = trimmed(alloc, random, a, Cut::Before(day))?;
@@ -267,7 +263,7 @@ fn rows_of_pair(
 ) -> Result<(Parts, Names), OutOfMemory>
     requires { zone_texts_differ (content_of_parts (cow_value a))
         (content_of_parts (cow_value b)) ≡ false }
-    ensures { IfOk result (AreRowsOfMerge random near None
+    ensures { IfOk result (AreRowsOfMerge near None
         (content_of_parts (cow_value a.entry)) (content_of_parts (cow_value b.entry))) }
 {
     let (lists, names) = lists_of_pair(alloc, random, a.as_ref(), b.as_ref(), near)?;
@@ -286,12 +282,12 @@ fn lists_of_pair(
     near: Option<u32>,
 ) -> Result<(MergedLists, Names), OutOfMemory>
     requires { zone_texts_differ (content_of_parts a.now) (content_of_parts b.now) ≡ false }
-    ensures { IfOk result (AreListsOfPair random near a.now b.now) }
+    ensures { IfOk result (AreListsOfPair near a.now b.now) }
 {
     let sides = Sides { a, b, near };
     sides.soundness();
     let twins = Twins::of_feeds(alloc, &sides)?;
-    let names = Names::of_twins(alloc, random, &sides, &twins)?;
+    let names = Names::of_twins(alloc, &sides, &twins)?;
     let lists = MergedLists::of_feeds(alloc, random, &sides, &twins, &names)?;
     Ok((lists, names))
 }

@@ -1,6 +1,6 @@
 ghost use Rattle.std.specs.Prelude.{◌≡◌, ◌<◌, ◌∷◌, ◌++◌, [], IfOk, OnOk, Some, filter, length, option_map, slice_index_or};
 ghost use Rattle.gtfs_merge.specs.Merging.{AreNamesOf};
-ghost use Rattle.gtfs_merge.specs.Names.{AreHashedBy, AreKindNames, ArePairedNames, in_kind, kind_names, new_id, of_side};
+ghost use Rattle.gtfs_merge.specs.Names.{AreKindNames, ArePairedNames, in_kind, kind_names, new_id, of_side};
 ghost use Rattle.gtfs_merge.specs.Near.{near_pairs};
 ghost use Rattle.gtfs_merge.specs.Numbered.{known_ids};
 ghost use Rattle.gtfs_merge.specs.Renaming.{joined_ids};
@@ -14,10 +14,8 @@ use crate::new_names::is_joined_row;
 use crate::renamed::Renamed;
 use crate::sides::Sides;
 use crate::twins::Twins;
-use gtfs_feed::Feed;
 use gtfs_field::{OutOfMemory, Text};
 use std::alloc::Global;
-use std::hash::RandomState;
 use std::marker::Model;
 
 /// What the ids of two feeds become when the feeds are merged, and which of them are joined.
@@ -68,38 +66,30 @@ impl Drop for Names {
 
 impl Names {
     // What the ids of two feeds become where these are the twins of B's rows.
-    // No answer depends on the random state.
     pub(crate) fn of_twins(
         alloc: Global,
-        random: RandomState,
         sides: &Sides,
         twins: &Twins,
     ) -> Result<Names, OutOfMemory>
         requires { twins.now ≡ twin_rows sides.now }
         ensures kinds { IfOk result (AreKindNames sides.now) }
-        ensures hashed { IfOk result (AreHashedBy random) }
         ensures names { IfOk result
             (AreNamesOf sides.now.near (content_a sides.now) (content_b sides.now)) }
     {
         sides.soundness();
-        Names::of_kinds(alloc, random, sides, twins)
+        Names::of_kinds(alloc, sides, twins)
     }
 
     // The names of each kind, and the near stops.
-    fn of_kinds(
-        alloc: Global,
-        random: RandomState,
-        sides: &Sides,
-        twins: &Twins,
-    ) -> Result<Names, OutOfMemory>
+    fn of_kinds(alloc: Global, sides: &Sides, twins: &Twins) -> Result<Names, OutOfMemory>
         requires { twins.now ≡ twin_rows sides.now }
-        ensures { IfOk result (ArePairedNames random sides.now) }
+        ensures { IfOk result (ArePairedNames sides.now) }
     {
-        let agencies = KindNames::of_feeds(alloc, random, sides, twins, Kind::Agency)?;
-        let stops = KindNames::of_feeds(alloc, random, sides, twins, Kind::Stop)?;
-        let routes = KindNames::of_feeds(alloc, random, sides, twins, Kind::Route)?;
-        let services = KindNames::of_feeds(alloc, random, sides, twins, Kind::Service)?;
-        let trips = KindNames::of_feeds(alloc, random, sides, twins, Kind::Trip)?;
+        let agencies = KindNames::of_feeds(alloc, sides, twins, Kind::Agency)?;
+        let stops = KindNames::of_feeds(alloc, sides, twins, Kind::Stop)?;
+        let routes = KindNames::of_feeds(alloc, sides, twins, Kind::Route)?;
+        let services = KindNames::of_feeds(alloc, sides, twins, Kind::Service)?;
+        let trips = KindNames::of_feeds(alloc, sides, twins, Kind::Trip)?;
         let near = near_pairs(alloc, sides, twins)?;
         Ok(Names {
             agencies,
@@ -173,17 +163,14 @@ impl Names {
     }
 }
 
-// The names of one kind, and the ids of each feed as they are lent.
+// The names of one kind.
 struct KindNames {
     a: Renamed,
     b: Renamed,
-    ids_a: Vec<Text>,
-    ids_b: Vec<Text>,
     joined: Vec<Text>,
 }
 
 impl Model for KindNames {
-    ghost use Rattle.std.specs.Prelude.{◌≡◌};
     ghost use Rattle.gtfs_merge.specs.Names.{NamesOfKind};
 
     ghost Value = { NamesOfKind };
@@ -193,8 +180,6 @@ impl Model for KindNames {
       b = n.b;
       joined = n.joined.items;
     } };
-
-    ghost invariant = { λ n. (n.ids_a.items ≡ n.a.ids) × (n.ids_b.items ≡ n.b.ids) };
 }
 
 impl Drop for KindNames {
@@ -202,8 +187,6 @@ impl Drop for KindNames {
         let KindNames {
             a: _,
             b: _,
-            ids_a: _,
-            ids_b: _,
             joined: _,
         } = self;
     }
@@ -213,26 +196,17 @@ impl KindNames {
     // What the ids of a kind become.
     fn of_feeds(
         alloc: Global,
-        random: RandomState,
         sides: &Sides,
         twins: &Twins,
         kind: Kind,
     ) -> Result<KindNames, OutOfMemory>
         requires { twins.now ≡ twin_rows sides.now }
-        ensures { IfOk result (λ names. names ≡ kind_names random kind sides.now) }
+        ensures { IfOk result (λ names. names ≡ kind_names kind sides.now) }
     {
-        let names_a = Renamed::of_a(alloc, random, sides, twins, kind)?;
-        let names_b = Renamed::of_b(alloc, random, sides, twins, kind)?;
-        let ids_a = ids_of(alloc, sides.a, kind)?;
-        let ids_b = ids_of(alloc, sides.b, kind)?;
+        let a = Renamed::of_a(alloc, sides, twins, kind)?;
+        let b = Renamed::of_b(alloc, sides, twins, kind)?;
         let joined = joined_ids(alloc, sides, twins, kind)?;
-        Ok(KindNames {
-            a: names_a,
-            b: names_b,
-            ids_a,
-            ids_b,
-            joined,
-        })
+        Ok(KindNames { a, b, joined })
     }
 
     // The ids that a feed has.
@@ -240,21 +214,10 @@ impl KindNames {
         ensures { result.now ≡ (of_side self.now side).ids }
     {
         match side {
-            Side::A => self.ids_a.as_slice(),
-            Side::B => self.ids_b.as_slice(),
+            Side::A => self.a.ids(),
+            Side::B => self.b.ids(),
         }
     }
-}
-
-// The ids of a kind that a feed has.
-fn ids_of(alloc: Global, feed: &Feed, kind: Kind) -> Result<Vec<Text>, OutOfMemory>
-    ensures { IfOk result (λ ids. ids.items ≡ known_ids kind feed.now) }
-{
-    let mut ids = Vec::with_capacity(alloc, count_of(feed, kind))?;
-    for number in 0..count_of(feed, kind) {
-        ids.push(Text::copy_of(alloc, id_of(feed, kind, number))?)?;
-    }
-    Ok(ids)
 }
 
 // The joined ids of a kind. They stand in both feeds, and in the same order.

@@ -50,7 +50,7 @@ pub(super) fn print_report<'w, F: Folders, O: Out>(
     ensures last { F.failure_count folders.new ≢ F.failure_count folders.old
         → FailsAtLast (F.calls folders.new) }
 {
-    let tables = read_tables(alloc, folders, dir)?;
+    let tables = read_tables(alloc, folders, dir, Vec::new(alloc))?;
     let report = check(alloc, &tables)?;
     print_problems(alloc, report.problems(), out)
 }

@@ -4,7 +4,7 @@ ghost use Rattle.gtfs_cli.specs.Boards.{HoldsFeed, IsFeedCause, IsFeedOf};
 ghost use Rattle.gtfs_cli.specs.Calls.{MakesAtMost};
 ghost use Rattle.gtfs_cli.specs.Refusals.{IsReadingCause, TellsFolders};
 
-use crate::commands::folder::{read_tables, read_tables_in};
+use crate::commands::folder::read_tables;
 use crate::commands::refusal::Refusal;
 use gtfs_board::Feed;
 use gtfs_feed::FeedDraft;
@@ -39,7 +39,7 @@ pub(super) fn read_feed<'w, F: Folders>(
     ensures last { F.failure_count folders.new ≢ F.failure_count folders.old
         → FailsAtLast (F.calls folders.new) }
 {
-    let tables = read_tables(alloc, folders, dir)?;
+    let tables = read_tables(alloc, folders, dir, Vec::new(alloc))?;
     feed_of(alloc, random, tables, dir)
 }
 
@@ -70,7 +70,7 @@ pub(super) fn read_feed_in<'w, F: Folders>(
         → FailsAtLast (F.calls folders.new) }
 {
     let bytes = mem::replace(memory, Vec::new(alloc));
-    let tables = read_tables_in(alloc, folders, dir, bytes)?;
+    let tables = read_tables(alloc, folders, dir, bytes)?;
     feed_in(alloc, random, tables, dir, memory)
 }
 

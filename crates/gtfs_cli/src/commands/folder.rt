@@ -12,37 +12,10 @@ use crate::commands::refusal::Refusal;
 use gtfs_table::{FolderFault, Folders, Tables};
 use std::alloc::Global;
 
-// The tables of a folder. An empty text names none.
+// The tables of a folder, with the fields of stop_times.txt in the memory of these bytes, which are
+// let go. An empty text names no folder.
 // Errors: `NotThere`, `Unreadable`, `OverLimit` and `OutOfMemory`.
 pub(super) fn read_tables<'w, F: Folders>(
-    alloc: Global,
-    folders: &mut F,
-    dir: &'w str,
-) -> Result<Tables, Refusal<'w>>
-    ensures read { IfOk result (λ tables. HoldsDataset (F.held folders.old) dir.now tables) }
-    ensures whole { IfOk result (λ tables. HoldsTables (F.limit folders.old)
-        (F.held folders.old) dir.now tables) }
-    ensures refused { IfErr result (λ refusal. (output : ℕ)
-        → IsCheckCause (F.limit folders.old) (F.held folders.old) dir.now
-        (record { folders = F.failure_count folders.old; output = output })
-        (record { folders = F.failure_count folders.new; output = output }) refusal) }
-    ensures unchanged { F.held folders.new ≡ F.held folders.old }
-    ensures same_limit { F.limit folders.new ≡ F.limit folders.old }
-    ensures grows { F.failure_count folders.old ≤ F.failure_count folders.new }
-    ensures no_failure { OnOk result
-        (F.failure_count folders.new ≡ F.failure_count folders.old) }
-    ensures told { IfErr result
-        (TellsFolders (F.failure_count folders.old) (F.failure_count folders.new)) }
-    ensures called { OnOk result (MakesCalls 10 (F.calls folders.old) (F.calls folders.new)) }
-    ensures few { MakesAtMost 10 (F.calls folders.old) (F.calls folders.new) }
-    ensures last { F.failure_count folders.new ≢ F.failure_count folders.old
-        → FailsAtLast (F.calls folders.new) }
-{
-    read_tables_in(alloc, folders, dir, Vec::new(alloc))
-}
-
-// The same, with the fields of stop_times.txt in the memory of these bytes, which are let go.
-pub(super) fn read_tables_in<'w, F: Folders>(
     alloc: Global,
     folders: &mut F,
     dir: &'w str,

@@ -1,6 +1,6 @@
 use Rattle.std.specs.Cow.{cow_value}
 use Rattle.gtfs_rows.specs.Views.{content_of_parts}
-use Rattle.gtfs_merge.proofs.CutMerges.{hashed-of-rows, merged-of-rows, refused-of-rows, zone-told}
+use Rattle.gtfs_merge.proofs.CutMerges.{merged-of-rows, refused-of-rows, zone-told}
 use Rattle.gtfs_merge.proofs.merging.judged.Goals as goal
 
 pub rows_of-requires-clause-zone : goal.rows_of-requires-clause-zone
@@ -12,7 +12,7 @@ returns-clause-merged c =
     let o = c.args.options.now in
     let a = cow_value c.args.a in
     let b = cow_value c.args.b in
-    merged-of-rows c.args.random o.near o.cutoff (content_of_parts a) (content_of_parts b)
+    merged-of-rows o.near o.cutoff (content_of_parts a) (content_of_parts b)
     (zone-told a b _ _ _ c.as_ref.ensures c.as_ref-2.ensures c.zones_differ.ensures c.if-zones_differ.false)
     o.file_limit c.in_ok-rows.rows c.in_ok-rows.ensures c.limited.result c.limited.ensures.merged
 
@@ -21,15 +21,6 @@ returns-clause-refused c =
     let o = c.args.options.now in
     let a = cow_value c.args.a in
     let b = cow_value c.args.b in
-    refused-of-rows c.args.random o.near o.cutoff (content_of_parts a) (content_of_parts b)
+    refused-of-rows o.near o.cutoff (content_of_parts a) (content_of_parts b)
     (zone-told a b _ _ _ c.as_ref.ensures c.as_ref-2.ensures c.zones_differ.ensures c.if-zones_differ.false)
     o.file_limit c.in_ok-rows.rows c.in_ok-rows.ensures c.limited.result c.limited.ensures.refused
-
-pub returns-clause-hashed : goal.returns-clause-hashed
-returns-clause-hashed c =
-    let o = c.args.options.now in
-    let a = cow_value c.args.a in
-    let b = cow_value c.args.b in
-    hashed-of-rows c.args.random o.near o.cutoff (content_of_parts a) (content_of_parts b)
-    (zone-told a b _ _ _ c.as_ref.ensures c.as_ref-2.ensures c.zones_differ.ensures c.if-zones_differ.false)
-    o.file_limit c.in_ok-rows.rows c.in_ok-rows.ensures c.limited.result c.limited.ensures.merged

@@ -5,6 +5,6 @@ use Rattle.gtfs_merge.proofs.merging.rows_cut_at.Goals as goal
 
 pub returns : goal.returns
 returns c =
-    rows-of-trimmed c.args.random c.args.near c.args.day (content_of_parts (cow_value c.args.a)) (content_of_parts (cow_value c.args.b))
+    rows-of-trimmed c.args.near c.args.day (content_of_parts (cow_value c.args.a)) (content_of_parts (cow_value c.args.b))
     (content_of_parts c.in_ok-first.first) (content_of_parts c.in_ok-second.second)
     c.in_ok-first.ensures c.in_ok-second.ensures c.rows_of_pair.result c.rows_of_pair.ensures

@@ -13,7 +13,7 @@ returns-in_err-tables-clause-refused g c =
     let held = g.F.Folders.held c.args.folders.now in
     let dir = c.args.dir.now in
     let x = g.F.Folders.failure_count c.args.folders.now in
-    let y = g.F.Folders.failure_count c.read_tables_in.new.folders in
+    let y = g.F.Folders.failure_count c.read_tables.new.folders in
     let r = c.in_err-tables.field-0.0 in
     told-up c.from_residual.result r (ReadingAside limit held dir x y) c.from_residual.ensures.1
     (reading-cause limit held dir x y r c.in_err-tables.ensures.refused)
@@ -23,7 +23,7 @@ returns-clause-refused g c =
     let limit = g.F.Folders.limit c.args.folders.now in
     let held = g.F.Folders.held c.args.folders.now in
     let x = g.F.Folders.failure_count c.args.folders.now in
-    let y = g.F.Folders.failure_count c.read_tables_in.new.folders in
+    let y = g.F.Folders.failure_count c.read_tables.new.folders in
     IfErr-weaker c.feed_in.result _ (ReadingAside limit held c.args.dir.now x y)
     (λ r e output. feed-cause limit held c.args.dir.now (counts x output) (counts y output) (c.in_ok-tables.ensures.no_failure, refl) c.in_ok-tables.tables r
     c.in_ok-tables.ensures.whole e)
@@ -38,7 +38,7 @@ returns-clause-read g c =
 pub returns-in_err-tables-clause-told : goal.returns-in_err-tables-clause-told
 returns-in_err-tables-clause-told g c =
     let x = g.F.Folders.failure_count c.args.folders.now in
-    let y = g.F.Folders.failure_count c.read_tables_in.new.folders in
+    let y = g.F.Folders.failure_count c.read_tables.new.folders in
     told-up c.from_residual.result c.in_err-tables.field-0.0 (TellsFolders x y) c.from_residual.ensures.1 c.in_err-tables.ensures.told
 
 pub returns-clause-no_failure : goal.returns-clause-no_failure
@@ -47,7 +47,7 @@ returns-clause-no_failure g c = on_ok-always c.feed_in.result _ c.in_ok-tables.e
 pub returns-clause-told : goal.returns-clause-told
 returns-clause-told g c =
     let x = g.F.Folders.failure_count c.args.folders.now in
-    let y = g.F.Folders.failure_count c.read_tables_in.new.folders in
+    let y = g.F.Folders.failure_count c.read_tables.new.folders in
     each-err c.feed_in.result (TellsFolders x y) (folders-kept x y c.in_ok-tables.ensures.no_failure)
 
 pub returns-clause-called : goal.returns-clause-called

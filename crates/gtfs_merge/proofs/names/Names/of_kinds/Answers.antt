@@ -3,7 +3,7 @@ use Rattle.gtfs_merge.proofs.names.Names.of_kinds.Goals as goal
 
 pub returns : goal.returns
 returns c = record {
-  kinds = each-kind c.args.random c.args.sides.now (record {
+  kinds = each-kind c.args.sides.now (record {
     agencies = c.in_ok-agencies.agencies;
     stops = c.in_ok-stops.stops;
     routes = c.in_ok-routes.routes;

@@ -1,20 +1,20 @@
-use Rattle.std.proofs.Common.{◌≡◌, ◌<◌, ◌∙◌, ap, arith, length, map, option_map, sym}
-use Rattle.std.proofs.lemmas.List.{length-map}
-use Rattle.gtfs_merge.specs.Names.{name_or}
-use Rattle.gtfs_merge.proofs.RenamedLists.{entry_name, name-of}
+use Rattle.std.proofs.Common.{◌<◌, ◌∙◌, arith, length}
+use Rattle.gtfs_merge.proofs.RenamedLists.{name-of, names-counted}
 use Rattle.gtfs_merge.proofs.renamed.Renamed.by_number.Goals as goal
 
-pub unwrap-requires : goal.unwrap-requires
-unwrap-requires c =
-    let entries = c.self.inside.names.entries in
-    let count : length (map entry_name entries) ≡ length c.args.self.now.names = ap (λ t. length t.names) c.self.view_is in
-    let same : length (map entry_name entries) ≡ length entries = length-map entries entry_name in
-    let within : c.args.number < length entries = omega (arith, count, same, c.requires) in
-    c.get_index.ensures.found.1 within
+pub index-requires : goal.index-requires
+index-requires c =
+    let r = c.self.inside in
+    omega (arith, c.requires, r.ids.ok.0, names-counted r.ids.items r.names.items c.self.invariant.0 c.args.self.now c.self.view_is)
+
+pub index-requires-2 : goal.index-requires-2
+index-requires-2 c =
+    let r = c.self.inside in
+    omega (arith, c.requires, r.names.ok.0, c.self.invariant.0, names-counted r.ids.items r.names.items c.self.invariant.0 c.args.self.now c.self.view_is)
 
 pub returns : goal.returns
 returns c =
-    let entry = c.unwrap.result in
-    let found = sym (ap (option_map (λ p. (p.0.now, p.1.now))) c.unwrap.ensures) ∙ c.get_index.ensures.entry in
-    c.name_or.ensures ∙ ap (λ id. name_or id entry.1.now) c.as_str.ensures.value
-    ∙ name-of c.self.inside.names.entries c.args.number _ c.args.self.now c.self.view_is (entry.0.now, entry.1.now) found
+    let r = c.self.inside in
+    let within : c.args.number < length r.ids.items = omega (arith, c.requires, names-counted r.ids.items r.names.items c.self.invariant.0 c.args.self.now c.self.view_is) in
+    c.name_or.ensures
+    ∙ name-of r.ids.items r.names.items c.self.invariant.0 c.args.self.now c.self.view_is c.args.number within _ _ _ _ (c.as_str.ensures ∙ c.index.ensures) c.index-2.ensures

@@ -1,46 +1,18 @@
-use Rattle.std.proofs.Common.{◌<◌, ◌≤◌, ◌∙◌, None, ap, arith, get_or, length, sym}
+use Rattle.std.proofs.Common.{◌∙◌, ap, length, subst, sym}
+use Rattle.gtfs_field.specs.TextOrder.{text_cmp}
+use Rattle.gtfs_rows.specs.Order.{Ascends}
+use Rattle.gtfs_merge.specs.Names.{names_or}
 use Rattle.gtfs_merge.specs.Numbered.{known_ids}
-use Rattle.gtfs_merge.specs.Renaming.{lists_id, renaming}
-use Rattle.gtfs_merge.specs.Sides.{side_names}
-use Rattle.gtfs_merge.specs.Twins.{of_kind, twin_number}
-use Rattle.gtfs_merge.specs.declared.kind.Side.TheVariants as side
-use Rattle.gtfs_merge.proofs.JoinedIds.{of-kind-length, twin-at}
-use Rattle.gtfs_merge.proofs.JoinedNames.{has-at}
-use Rattle.gtfs_merge.proofs.RenamedLists.{known-fresh, renamed-all, renamed-more}
+use Rattle.gtfs_merge.proofs.RenamedLists.{ascend}
 use Rattle.gtfs_merge.proofs.renamed.Renamed.of_b.Goals as goal
 
-pub new_id_of_b-requires-clause-there : goal.new_id_of_b-requires-clause-there
-new_id_of_b-requires-clause-there c =
-    let within : c.loop-number.number < length (known_ids c.args.kind c.args.sides.now.b.now) = omega (arith, c.count_of-number-end.ensures) in
-    ap (lists_id (known_ids c.args.kind c.args.sides.now.b.now)) c.id_of-id.ensures ∙ has-at (known_ids c.args.kind c.args.sides.now.b.now) c.loop-number.number within
-
-pub of-twin-requires : goal.of-twin-requires
-of-twin-requires c =
-    let within : c.loop-number.number < length (known_ids c.args.kind c.args.sides.now.b.now) = omega (arith, c.count_of-number-end.ensures) in
-    let count = ap (λ t. length (of_kind t c.args.kind)) c.requires ∙ of-kind-length c.args.sides.now c.args.kind in
-    omega (arith, count, within)
-
-pub new_id_of_b-requires-clause-twin : goal.new_id_of_b-requires-clause-twin
-new_id_of_b-requires-clause-twin c =
-    let within : c.loop-number.number < length (known_ids c.args.kind c.args.sides.now.b.now) = omega (arith, c.count_of-number-end.ensures) in
-    c.of-twin.ensures ∙ ap (λ t. get_or (of_kind t c.args.kind) c.loop-number.number None) c.requires ∙ twin-at c.args.sides.now c.args.kind c.loop-number.number within
-    ∙ ap (twin_number c.args.kind c.args.sides.now) (sym c.id_of-id.ensures)
-
-pub push-requires : goal.push-requires
-push-requires c =
-    let within : c.loop-number.number < length (known_ids c.args.kind c.args.sides.now.b.now) = omega (arith, c.count_of-number-end.ensures) in
-    known-fresh c.args.random c.args.kind c.args.sides.now.b.now c.soundness.ensures.b c.loop-number.number (renaming (side_names side.B c.args.sides.now) c.args.kind) _ _ within
-    c.loop-number.invariant c.id_of-id.ensures
-
-pub loop-number-preserved : goal.loop-number-preserved
-loop-number-preserved c =
-    let ids = known_ids c.args.kind c.args.sides.now.b.now in
-    let rename = renaming (side_names side.B c.args.sides.now) c.args.kind in
-    let within : c.loop-number.number < length ids = omega (arith, c.count_of-number-end.ensures) in
-    renamed-more c.args.random rename ids c.loop-number.number _ _ c.id_of-id.result.now _ within c.loop-number.invariant c.in_ok-push.ensures c.id_of-id.ensures (c.in_ok-name.ensures ∙ ap rename c.id_of-id.ensures)
+pub invariant_of-result : goal.invariant_of-result
+invariant_of-result c =
+    let own = c.in_ok-ids.ensures in
+    (c.in_ok-names.ensures.count ∙ ap length (sym own), subst (Ascends text_cmp) (sym own) (ascend c.args.kind c.args.sides.now.b.now c.soundness.ensures.b))
 
 pub returns : goal.returns
 returns c =
-    let ids = known_ids c.args.kind c.args.sides.now.b.now in
-    let past : length ids ≤ c.loop-number.number = omega (arith, c.count_of-number-end.ensures) in
-    c.loop-number.invariant ∙ renamed-all c.args.random (renaming (side_names side.B c.args.sides.now) c.args.kind) ids c.loop-number.number past
+    let own = c.in_ok-ids.ensures in
+    (λ i. record { ids = own i; names = names_or (own i) c.in_ok-names.names.items })
+    ∙ (λ i. record { ids = known_ids c.args.kind c.args.sides.now.b.now; names = c.in_ok-names.ensures.names i })

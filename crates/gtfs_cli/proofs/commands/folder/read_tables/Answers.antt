@@ -3,7 +3,7 @@ use Rattle.gtfs_devices.specs.declared.folders.FolderFault.{FolderFault}
 use Rattle.gtfs_table.specs.Reading.{RefusesDataset}
 use Rattle.gtfs_cli.proofs.CallsMade.{last-of, no-calls, so-many, some-calls}
 use Rattle.gtfs_cli.proofs.Endings.{counts}
-use Rattle.gtfs_cli.proofs.commands.folder.read_tables_in.Goals as goal
+use Rattle.gtfs_cli.proofs.commands.folder.read_tables.Goals as goal
 
 pub returns-then-is_empty-clause-few : goal.returns-then-is_empty-clause-few
 returns-then-is_empty-clause-few g c = no-calls 10 (g.F.Folders.calls c.args.folders.now)

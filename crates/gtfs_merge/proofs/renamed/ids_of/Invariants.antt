@@ -1,6 +1,6 @@
 use Rattle.std.proofs.Common.{◌≡◌, take}
 use Rattle.gtfs_merge.specs.Numbered.{known_ids}
-use Rattle.gtfs_merge.proofs.names.ids_of.Given as goal
+use Rattle.gtfs_merge.proofs.renamed.ids_of.Given as goal
 
 -- the ids so far
 abbrev pub invariant-loop-number : goal.invariant-loop-number

@@ -1,7 +1,7 @@
 use Rattle.std.proofs.Common.{◌<◌, ◌≤◌, ◌++◌, ◌∷◌, [], ◌∙◌, arith, length, sym}
 use Rattle.std.proofs.lemmas.List.{take_all, take_more}
 use Rattle.gtfs_merge.specs.Numbered.{known_ids}
-use Rattle.gtfs_merge.proofs.names.ids_of.Goals as goal
+use Rattle.gtfs_merge.proofs.renamed.ids_of.Goals as goal
 
 pub loop-number-preserved : goal.loop-number-preserved
 loop-number-preserved c =
