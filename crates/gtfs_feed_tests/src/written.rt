@@ -115,6 +115,27 @@ C1,1,0,1,0,1,0,1,20240401,20240405\n",
     },
 ];
 
+// Stop times without a headsign, with every choice, at a stop whose id needs quotes and at others.
+const BARE: [FileText; 2] = [
+    (
+        "stops.txt",
+        "stop_id,stop_name,stop_lat,stop_lon\n\"S,1\",Mill,52.5,13.4\nS2,Lake,52.6,13.5\n",
+    ),
+    (
+        "stop_times.txt",
+        "trip_id,arrival_time,departure_time,stop_id,stop_sequence,pickup_type,drop_off_type,timepoint\n\
+T1,8:00:00,08:00:00,\"S,1\",1,1,2,0\nT1,08:10:00,08:11:00,S2,10,3,0,1\n\
+T1,100:00:00,100:00:00,S2,100,,3,\nT1,,,S2,101,2,1,0\nT1,101:00:00,101:00:01,S2,1000,0,,1\n",
+    ),
+];
+
+const BARE_WRITTEN: &[Written] = &[Written {
+    file: File::StopTimes,
+    text: "trip_id,arrival_time,departure_time,stop_id,stop_sequence,stop_headsign,pickup_type,drop_off_type,timepoint\n\
+T1,08:00:00,08:00:00,\"S,1\",1,,1,2,0\nT1,08:10:00,08:11:00,S2,10,,3,0,1\n\
+T1,100:00:00,100:00:00,S2,100,,0,3,\nT1,,,S2,101,,2,1,0\nT1,101:00:00,101:00:01,S2,1000,,0,0,1\n",
+}];
+
 fn assert_written<R: Abort + RandomSource>(
     rt: &R,
     alloc: Global,
@@ -137,6 +158,11 @@ fn a_small_feed_is_written_in_full(rt: HostRuntime) -> Result<(), Fail> {
 #[test]
 fn values_are_written_canonically_and_rows_by_key(rt: HostRuntime) -> Result<(), Fail> {
     assert_written(&rt, rt.alloc(), &FULL, FULL_WRITTEN)
+}
+
+#[test]
+fn stop_times_without_headsigns_are_written_in_full(rt: HostRuntime) -> Result<(), Fail> {
+    assert_written(&rt, rt.alloc(), &BARE, BARE_WRITTEN)
 }
 
 // The text of a file is the same in memory of so many other bytes, which are no text.

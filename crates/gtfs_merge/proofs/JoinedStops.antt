@@ -44,7 +44,7 @@ pub no-index : (xs : List (List ℕ)) (q : List ℕ) → lists_id xs q ≡ false
 no-index xs q e = ap (λ b. cond b (Some (position_or_len (bytes_eq q) xs)) None) (before-any (bytes_eq q) xs ∙ e)
 
 -- a text has the number under which it stands first
-own_text : {X : Type 0} (id : X → List ℕ) (rows : List X) (m : ℕ) → Ascends (on id text_cmp) rows → m < length rows → position (bytes_eq (get_or (map id rows) m [])) (map id rows) ≡ Some m
+pub own_text : {X : Type 0} (id : X → List ℕ) (rows : List X) (m : ℕ) → Ascends (on id text_cmp) rows → m < length rows → position (bytes_eq (get_or (map id rows) m [])) (map id rows) ≡ Some m
 own_text id [] m up within = absurd (omega arith)
 own_text id (r ∷ rs) m up within =
     let row = get_or (r ∷ rs) m r in

@@ -55,9 +55,9 @@ pub name-at : (k : Kind) (sides : Sides) (s : Side) (n : ℕ) → n < length (kn
 name-at k sides side.A n within = get_or-map (renaming (side_names side.A sides) k) (known_ids k sides.a.now) n [] [] within
 name-at k sides side.B n within = get_or-map (renaming (side_names side.B sides) k) (known_ids k sides.b.now) n [] [] within
 
-pub names-count : (k : Kind) (sides : Sides) (s : Side) → length (of_side (kind_names k sides) s).names ≡ length (known_ids k (side_parts s sides))
-names-count k sides side.A = length-map (known_ids k sides.a.now) (renaming (side_names side.A sides) k)
-names-count k sides side.B = length-map (known_ids k sides.b.now) (renaming (side_names side.B sides) k)
+pub ids-count : (k : Kind) (sides : Sides) (s : Side) → length (of_side (kind_names k sides) s).ids ≡ length (known_ids k (side_parts s sides))
+ids-count k sides side.A = refl
+ids-count k sides side.B = refl
 
 pub joined-further : (p : List ℕ → Bool) (xs : List (List ℕ)) (n : ℕ) (before after : List (List ℕ)) (x : List ℕ) → n < length xs → before ≡ filter p (take n xs) → after ≡ before ++ filter p (x ∷ []) → x ≡ get_or xs n []
     → after ≡ filter p (take (n + 1) xs)

@@ -3,11 +3,12 @@ use Rattle.std.proofs.Common.{◌≡◌, ◌<◌, ◌≤◌, ◌+◌, ℕ, List,
 use Rattle.std.specs.Prelude.{String, zip}
 use Rattle.std.specs.List.{AllPairs, position, slice_get}
 use Rattle.std.specs.declared.cmp.Ordering.TheVariants.{Less}
-use Rattle.std.proofs.lemmas.List.{get_or-map, length-map, length-take-le, map_push, take_all, take_more}
+use Rattle.std.proofs.lemmas.List.{get_or-map, length-map, length-take-le, map-id, map_push, take_all, take_more}
 use Rattle.std.proofs.lemmas.List.Quantifiers.{position-Some}
 use Rattle.std.proofs.lemmas.Option.{slice_get-get_or}
 use Rattle.std.proofs.lemmas.Slice.Zip.{get_or-zip, length-zip}
 use Rattle.gtfs_field.specs.TextOrder.{text_cmp}
+use Rattle.gtfs_rows.specs.Order.{Ascends}
 use Rattle.gtfs_rows.proofs.SameElements.{pairs-map}
 use Rattle.gtfs_rows.specs.declared.parts.Parts.{Parts}
 use Rattle.gtfs_rows.specs.Views.{IsSoundParts}
@@ -17,6 +18,7 @@ use Rattle.gtfs_merge.specs.Numbered.{known_ids}
 use Rattle.gtfs_merge.specs.Renaming.{Renaming}
 use Rattle.gtfs_merge.specs.declared.kind.Kind.{Kind}
 use Rattle.gtfs_merge.specs.declared.kind.Kind.TheVariants as kind
+use Rattle.gtfs_merge.proofs.JoinedStops.{own_text}
 
 -- ---- ids of a kind ascend
 
@@ -70,7 +72,7 @@ module _ {A : Type 0} (rename : Renaming) (ids : List (List ℕ)) where
 -- ---- names as the code keeps them: each id, and its other text, if it has one
 
 module _ {A : Type 0} (ids : List (List ℕ)) (names : List (Option (String A))) (count : length names ≡ length ids) (table : NewIds) (is : record { ids = ids; names = names_or ids names } ≡ table) where
-  pub names-counted : length table.names ≡ length ids
+  names-counted : length table.names ≡ length ids
   names-counted = ap (λ t. length t.names) (sym is) ∙ length-map (zip ids names) (λ p. name_or p.0 p.1) ∙ length-zip ids names ∙ even (length ids) (length names) count
     where
       even : (n m : ℕ) → m ≡ n → min n m ≡ n
@@ -86,13 +88,20 @@ module _ {A : Type 0} (ids : List (List ℕ)) (names : List (Option (String A)))
       ∙ ap (λ t. get_or t.names n []) is
 
   -- an id that was found at a number
-  pub found-within : (x : List ℕ) (n : ℕ) → position (bytes_eq x) ids ≡ Some n → n < length table.names
-  found-within x n found = omega (arith, names-counted, (position-Some (bytes_eq x) ids n [] found).0)
+  pub found-within : (x : List ℕ) (n : ℕ) → position (bytes_eq x) ids ≡ Some n → n < length table.ids
+  found-within x n found = omega (arith, ap (λ t. length t.ids) is, (position-Some (bytes_eq x) ids n [] found).0)
 
   pub name-found : (x : List ℕ) (n : ℕ) → position (bytes_eq x) ids ≡ Some n → Some (get_or table.names n []) ≡ new_id table x
   name-found x n found =
-      sym (slice_get-get_or table.names n [] (found-within x n found))
+      sym (slice_get-get_or table.names n [] (omega (arith, names-counted, (position-Some (bytes_eq x) ids n [] found).0)))
       ∙ ap (option_and_then (slice_get table.names)) (sym found ∙ ap (λ t. position (bytes_eq x) t.ids) is)
+
+  -- the id of a number became the name of that number
+  pub name-numbered : Ascends text_cmp ids → (n : ℕ) → n < length ids → new_id table (get_or table.ids n []) ≡ Some (get_or table.names n [])
+  name-numbered up n within =
+      let own : position (bytes_eq (get_or ids n [])) ids ≡ Some n =
+      ap (λ xs. position (bytes_eq (get_or xs n [])) xs) (sym (map-id ids)) ∙ own_text (λ t. t) ids n up within in
+      ap (λ t. new_id table (get_or t.ids n [])) (sym is) ∙ sym (name-found (get_or ids n []) n own)
 
   pub name-missing : (x : List ℕ) → position (bytes_eq x) ids ≡ None → None ≡ new_id table x
   name-missing x missing = ap (option_and_then (slice_get table.names)) (sym missing ∙ ap (λ t. position (bytes_eq x) t.ids) is)

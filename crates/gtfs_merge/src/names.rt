@@ -136,11 +136,15 @@ impl Names {
         self.near.as_slice()
     }
 
-    // What the id of a number became.
-    pub(crate) fn by_number(&self, side: Side, kind: Kind, number: usize) -> &str
-        requires { number < length (of_side (in_kind self.now kind) side).names }
-        ensures { result.now
+    /// What the id of a number among [`Names::ids`] became: what [`Names::of`] answers of that id,
+    /// without a search for it. The number is below how many they are.
+    pub fn by_number(&self, side: Side, kind: Kind, number: usize) -> &str
+        requires { number < length (of_side (in_kind self.now kind) side).ids }
+        ensures name { result.now
             ≡ slice_index_or (of_side (in_kind self.now kind) side).names number [] }
+        ensures of_id { new_id (of_side (in_kind self.now kind) side)
+            (slice_index_or (of_side (in_kind self.now kind) side).ids number [])
+            ≡ Some result.now }
     {
         let names = self.kind(kind);
         match side {

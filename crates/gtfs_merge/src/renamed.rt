@@ -96,8 +96,9 @@ impl Renamed {
 
     // What the id of a number became.
     pub(crate) fn by_number(&self, number: usize) -> &str
-        requires { number < length self.now.names }
-        ensures { result.now ≡ slice_index_or self.now.names number [] }
+        requires { number < length self.now.ids }
+        ensures name { result.now ≡ slice_index_or self.now.names number [] }
+        ensures of_id { new_id self.now (slice_index_or self.now.ids number []) ≡ Some result.now }
     {
         name_or(self.ids[number].as_str(), &self.names[number])
     }

@@ -42,6 +42,23 @@ fn assert_wanted(rt: &impl Abort, names: &Names) {
     }
 }
 
+// Each id of a side and a kind has its name under its number too.
+fn assert_numbered(
+    rt: &impl Abort,
+    names: &Names,
+    side: Side,
+    kind: Kind,
+    wanted: &[&'static str],
+) {
+    let ids = names.ids(side, kind);
+    assert_is(rt, ids.len(), wanted.len(), "ids");
+    for (number, id) in ids.iter().enumerate() {
+        let name = names.by_number(side, kind, number);
+        let wanted = wanted.get(number).copied().unwrap_or("no name");
+        assert_is(rt, name, wanted, id.as_str());
+    }
+}
+
 // So are the joined ids.
 fn assert_joined(rt: &impl Abort, alloc: Global, names: &Names, wanted: &str) -> Result<(), Fail> {
     let told = joined_ids(alloc, names)?;
@@ -66,6 +83,19 @@ fn assert_names<R: Abort + RandomSource>(
 #[test]
 fn an_id_has_a_name_on_each_side(rt: HostRuntime) -> Result<(), Fail> {
     assert_names(&rt, rt.alloc(), &[], &[RAIL])
+}
+
+#[test]
+fn the_id_of_a_number_has_its_name(rt: HostRuntime) -> Result<(), Fail> {
+    let a = feed_with(&rt, rt.alloc(), &[])?;
+    let b = feed_with(&rt, rt.alloc(), &[RAIL])?;
+    let merged = merged_of(&rt, rt.alloc(), &a, &b)?;
+    let names = &merged.names;
+    assert_numbered(&rt, names, Side::A, Kind::Stop, &["S1", "S2", "S3"]);
+    assert_numbered(&rt, names, Side::A, Kind::Trip, &["T1"]);
+    assert_numbered(&rt, names, Side::B, Kind::Trip, &["T1_merged_1"]);
+    assert_numbered(&rt, names, Side::B, Kind::Agency, &["agency_merged_2"]);
+    Ok(())
 }
 
 // The joined ids of each kind on a line.

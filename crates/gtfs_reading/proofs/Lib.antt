@@ -8,6 +8,7 @@ mod FrequencyFacts
 mod Gathers
 mod IdTexts
 mod Keyed
+mod NamedTrips
 pub mod OfParts
 mod ReferenceFacts
 mod RowKeys

@@ -1,20 +1,21 @@
 //! The rows of frequencies.txt by trip (GTFS Schedule Reference, `frequencies.txt`).
 
 ghost use Rattle.std.specs.Ordering.{nat_cmp};
-ghost use Rattle.std.specs.Prelude.{◌≡◌, [], IfOk, OnOk, codes, length, map};
+ghost use Rattle.std.specs.Prelude.{◌≡◌, ◌<◌, [], IfOk, OnOk, codes, length, map, slice_index_or};
 ghost use Rattle.gtfs_columns.specs.Problems.{Passes};
-ghost use Rattle.gtfs_columns.specs.steps.Ids.{first_rows, ids_of};
-ghost use Rattle.gtfs_reading.specs.ByTrip.{AreByTrip};
+ghost use Rattle.gtfs_columns.specs.steps.Ids.{first_rows, ids_of, rows_by_number};
+ghost use Rattle.gtfs_reading.specs.ByTrip.{AreByTrip, AreNamedTrips, with_mark};
 ghost use Rattle.gtfs_reading.specs.Cuts.{IsCutInto};
 ghost use Rattle.gtfs_rows.specs.Order.{by_key};
-ghost use Rattle.gtfs_rows.specs.Reading.{content_of, frequency_in, rows_of};
+ghost use Rattle.gtfs_rows.specs.Reading.{content_of, frequency_in, rows_of, trip_in};
 ghost use Rattle.gtfs_rows.specs.Views.{frequency_of};
 ghost use Rattle.gtfs_table.specs.Parts.{parts};
 ghost use Rattle.gtfs_table.specs.declared.file.File.TheVariants as file;
 
 use crate::choices::exact_times;
 use crate::numbers::{clock, positive};
-use gtfs_columns::Ids;
+use crate::references::number;
+use gtfs_columns::{Finder, Ids};
 use gtfs_field::{List, OutOfMemory};
 use gtfs_rows::Frequency;
 use gtfs_table::{File, Tables};
@@ -65,6 +66,16 @@ fn push_frequencies(
 {
     let file = FrequencyFile::new(alloc, tables)?;
     file.push_by_trip(alloc, trips, starts, rows)
+}
+
+// Marks a trip, if there is one.
+fn mark(named: &mut Vec<bool>, trip: Option<usize>)
+    ensures { named.new.items ≡ with_mark named.old.items trip }
+{
+    match trip {
+        Some(trip) if trip < named.len() => named[trip] = true,
+        _ => {}
+    }
 }
 
 // frequencies.txt with its columns found, and its rows by trip.
@@ -121,14 +132,51 @@ impl<'a> FrequencyFile<'a> {
         requires no_rows { rows.old.items ≡ [] }
         ensures { OnOk result (AreByTrip self.now trips.now starts.new.items rows.new.items) }
     {
-        let trip_id = self.tables.column(File::Trips, "trip_id");
+        let named = self.named_trips(alloc, trips)?;
         for number in 0..trips.len() {
-            let record = self.tables.record(File::Trips, trips.row(number));
-            let periods = self.of_trip(alloc, record.value(trip_id))?;
+            let periods = self.of_number(alloc, trips, &named, number)?;
             starts.push(rows.len())?;
             rows.extend_from_slice(&periods)?;
         }
         Ok(())
+    }
+
+    // Of each trip whether a row names it. In most feeds few are named, and the others need no look
+    // at their ids, which lie far apart.
+    fn named_trips(&self, alloc: Global, trips: &Ids<'_>) -> Result<Vec<bool>, OutOfMemory>
+        ensures { IfOk result (λ named. AreNamedTrips self.now trips.now named.items) }
+    {
+        let trip_id = self.tables.column(File::Frequencies, "trip_id");
+        let mut named = Vec::new(alloc);
+        named.resize(trips.len(), false)?;
+        let mut trips = Finder::new(trips);
+        for (_, record) in self.tables.rows(File::Frequencies) {
+            mark(&mut named, number(&mut trips, record.value(trip_id)));
+        }
+        Ok(named)
+    }
+
+    // The frequencies of the trip of a number, by start.
+    fn of_number(
+        &self,
+        alloc: Global,
+        trips: &Ids<'_>,
+        named: &[bool],
+        number: usize,
+    ) -> Result<Vec<Frequency>, OutOfMemory>
+        requires passes { Passes self.now }
+        requires trips { trips.now ≡ first_rows self.now file.Trips (codes "trip_id") }
+        requires named { AreNamedTrips self.now trips.now named.now }
+        requires within { number < length (ids_of trips.now) }
+        ensures { IfOk result (λ periods. map frequency_of periods.items
+            ≡ (trip_in self.now (slice_index_or (rows_by_number trips.now) number 0)).frequencies) }
+    {
+        if !named[number] {
+            return Ok(Vec::new(alloc));
+        }
+        let trip_id = self.tables.column(File::Trips, "trip_id");
+        let record = self.tables.record(File::Trips, trips.row(number));
+        self.of_trip(alloc, record.value(trip_id))
     }
 
     // The frequencies of a trip by start.

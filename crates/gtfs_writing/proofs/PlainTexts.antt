@@ -1,5 +1,5 @@
 -- Texts that need no quotes, as counts and the ids of most stops.
-use Rattle.std.proofs.Common.{◌≡◌, ◌∙◌, ℕ, zero, suc, map, ◌/◌, ◌%◌, ◌+◌, ◌^◌, ◌<◌, ◌≤◌, ◌∷◌, List, [], drop, false, true, ap, refl, arith}
+use Rattle.std.proofs.Common.{◌≡◌, ◌∙◌, ℕ, zero, suc, map, ◌/◌, ◌%◌, ◌+◌, ◌^◌, ◌<◌, ◌≤◌, ◌∷◌, ◌++◌, List, [], drop, false, true, ap, refl, arith}
 use Rattle.std.specs.Char.{is_ascii_digit}
 use Rattle.std.specs.Fmt.{decimal}
 use Rattle.std.specs.List.{list_all}
@@ -8,7 +8,7 @@ use Rattle.std.proofs.lemmas.Bool.{and_parts, not-true}
 use Rattle.std.proofs.lemmas.Bool.Decides.{nat_tests}
 use Rattle.std.proofs.lemmas.Fmt.{IsAscii-decimal, decimal_digit, decimal_step}
 use Rattle.std.proofs.lemmas.Str.Ascii.{IsAscii-cons}
-use Rattle.csv.specs.Writing.{comma, default_writer, needs_byte, needs_quotes}
+use Rattle.csv.specs.Writing.{comma, default_writer, field_text, fields_text, needs_byte, needs_quotes}
 use Rattle.gtfs_field.specs.Canonical.{count_text}
 use Rattle.gtfs_field.proofs.Numerals.{digit-bounds}
 use Rattle.gtfs_field.proofs.Texts.{decimal-digits}
@@ -55,3 +55,22 @@ plain-at (s ∷ ss) (suc n) all = plain-at ss n ((and_parts (is_plain_stop s) (l
 -- where no stop's id needs quotes, that of no number does
 pub plain-stop : (p : Parts) (n : ℕ) (t : List ℕ) → t ≡ text_of_number (stop_ids p) n → list_all is_plain_stop p.stops ≡ true → needs_quotes default_writer t ≡ false
 plain-stop p n t is all = ap (needs_quotes default_writer) is ∙ plain-at p.stops n all
+
+-- ---- the choices at the end of a stop time
+
+-- a digit as a field
+field-of-digit : (n : ℕ) → n < 10 → field_text default_writer (count_text n) ≡ (48 + n % 10) ∷ []
+field-of-digit n small =
+    let same : n ≡ n % 10 = omega (arith, small) in
+    rw (count-plain n (count_text n) (omega (arith, small)) refl) (decimal_digit n small ∙ ap (λ d. (48 + d) ∷ []) same)
+
+pub choices-text : (p d : ℕ) → p < 10 → d < 10
+    → 44 ∷ 44 ∷ (48 + p % 10) ∷ 44 ∷ (48 + d % 10) ∷ 44 ∷ 10 ∷ [] ≡ fields_text default_writer ([] ∷ count_text p ∷ count_text d ∷ [] ∷ []) ++ 10 ∷ []
+unfolding fields_text
+choices-text p d small_p small_d = rw (field-of-digit p small_p, field-of-digit d small_d) refl
+
+pub choices-text-exact : (p d t : ℕ) → p < 10 → d < 10 → t < 10
+    → 44 ∷ 44 ∷ (48 + p % 10) ∷ 44 ∷ (48 + d % 10) ∷ 44 ∷ (48 + t % 10) ∷ 10 ∷ []
+    ≡ fields_text default_writer ([] ∷ count_text p ∷ count_text d ∷ count_text t ∷ []) ++ 10 ∷ []
+unfolding fields_text
+choices-text-exact p d t small_p small_d small_t = rw (field-of-digit p small_p, field-of-digit d small_d, field-of-digit t small_t) refl

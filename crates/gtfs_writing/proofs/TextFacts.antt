@@ -1,7 +1,9 @@
 -- Rows taken into a text are the text of records, and taken into a room they leave what that text leaves of it.
 use Rattle.std.proofs.Common.{◌≡◌, ◌∙◌, ap, sym, refl, ℕ, suc, inl, inr, ◌+◌, ◌-◌, ◌<◌, ◌≤◌, ◌++◌, ◌∷◌, ◌==◌, true, false, List, [], map, length, get_or, drop, take, drop-cons, add-one, eq-eqb, append-nil, append_assoc, length-append, nat_lt, Option, Some, None, arith}
 use Rattle.std.specs.List.{list_all, list_any}
+use Rattle.std.specs.Prelude.{Result, Ok, Err, if◌then◌else◌}
 use Rattle.std.specs.Option.{is_none}
+use Rattle.std.specs.Result.{OnOk, is_ok}
 use Rattle.std.proofs.lemmas.Bool.{and_parts, cases_lt, le-ltb, lt-ltb}
 use Rattle.std.proofs.lemmas.List.{drop_all}
 use Rattle.std.proofs.lemmas.List.Folds.{list_any_more}
@@ -30,6 +32,13 @@ fields-text t [] = sym (append-nil t)
 fields-text t (f ∷ fs) =
     fields-text (t ++ comma ∷ field_text default_writer f) fs
     ∙ append_assoc t (comma ∷ field_text default_writer f) (fields_text default_writer fs)
+
+-- further fields and the end of their row, pushed in one piece
+pub pushed-last : {T E : Type 0} (r : Result T E) (new old t piece : List ℕ) (fs : List (List ℕ)) → new ≡ (if is_ok r then old ++ piece else old)
+    → old ≡ t → piece ≡ fields_text default_writer fs ++ line_feed ∷ [] → OnOk r (new ≡ into_text.last (with_fields into_text t fs))
+pushed-last (Err v) new old t piece fs pushed was is = tt
+pushed-last (Ok v) new old t piece fs pushed was is =
+    pushed ∙ (λ i. was i ++ is i) ∙ sym (ap (λ u. u ++ line_feed ∷ []) (fields-text t fs) ∙ append_assoc t (fields_text default_writer fs) (line_feed ∷ []))
 
 -- a row of two fields or more, which is no blank one
 row-text : (t f g : List ℕ) (fs : List (List ℕ)) → with_row into_text t (f ∷ g ∷ fs) ≡ t ++ row_text default_writer (f ∷ g ∷ fs)

@@ -4,6 +4,11 @@ use Rattle.csv.specs.Writing.{default_writer, comma, field_text}
 use Rattle.csv.specs.Machine.{line_feed}
 use Rattle.gtfs_table.specs.Tables.{Records, Table, table_of, table_records, with_record, with_field, with_table}
 use Rattle.gtfs_table.specs.declared.file.File.{File}
+use Rattle.gtfs_field.specs.Canonical.{count_text}
+use Rattle.gtfs_stop_times.specs.Choices.{drop_off_code, pickup_code, timepoint_code}
+use Rattle.gtfs_stop_times.specs.declared.choices.DropOffType.{DropOffType}
+use Rattle.gtfs_stop_times.specs.declared.choices.PickupType.{PickupType}
+use Rattle.gtfs_stop_times.specs.declared.choices.Timepoint.{Timepoint}
 use Rattle.gtfs_columns.specs.Columns.{columns_of}
 use Rattle.gtfs_rows.specs.Cells.{record_text}
 use Rattle.gtfs_rows.specs.Content.{Content}
@@ -15,6 +20,11 @@ pub record Taking (S : Type 0) : Type 0 where
   pub first : S → List ℕ → S
   pub next : S → List ℕ → S
   pub last : S → S
+
+-- whether times are exact, empty where it is not said
+abbrev pub timepoint_field : Option Timepoint → List ℕ
+timepoint_field None = []
+timepoint_field (Some timepoint) = count_text (timepoint_code timepoint)
 
 -- after further fields of a row
 abbrev pub with_fields : {S : Type 0} → Taking S → S → List (List ℕ) → S
@@ -30,6 +40,11 @@ with_row t s (f ∷ fs) = t.last (with_fields t (t.first s f) fs)
 abbrev pub with_rows : {S : Type 0} → Taking S → S → Records → S
 with_rows t s [] = s
 with_rows t s (r ∷ rs) = with_rows t (with_row t s r) rs
+
+-- how riders board and alight at a stop time without a headsign, and whether its times are exact, after the empty field of the headsign
+abbrev pub choice_fields : PickupType → DropOffType → Option Timepoint → List (List ℕ)
+choice_fields pickup drop_off timepoint =
+    [] ∷ count_text (pickup_code pickup) ∷ count_text (drop_off_code drop_off) ∷ timepoint_field timepoint ∷ []
 
 -- ---- into a text: a comma before each further field, and a line feed after each row (RFC 4180, section 2)
 

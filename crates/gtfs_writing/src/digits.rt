@@ -1,8 +1,12 @@
 //! Short canonical texts of numbers with the comma before them, made on the stack.
-ghost use Rattle.std.specs.Prelude.{◌≡◌, ◌∷◌, ◌<◌, ◌≤◌, ◌+◌, ◌%◌};
+ghost use Rattle.std.specs.Prelude.{◌≡◌, ◌∷◌, ◌++◌, [], ◌<◌, ◌≤◌, ◌+◌, ◌%◌, Some, None};
 ghost use Rattle.std.specs.Str.{IsAscii};
-ghost use Rattle.csv.specs.Writing.{comma};
+ghost use Rattle.csv.specs.Machine.{line_feed};
+ghost use Rattle.csv.specs.Writing.{comma, default_writer, fields_text};
 ghost use Rattle.gtfs_field.specs.Canonical.{count_text, time_text};
+ghost use Rattle.gtfs_writing.specs.Taking.{choice_fields};
+
+use gtfs_rows::{DropOffType, PickupType, Timepoint};
 
 // The text of a count of one digit.
 pub(crate) fn one_digit(number: u32) -> [u8; 2]
@@ -40,6 +44,33 @@ pub(crate) fn short_time(seconds: u32) -> [u8; 9]
         digit(last / 10),
         digit(last),
     ]
+}
+
+// The fields of choices at the end of a stop time without a headsign, and the end of the row.
+pub(crate) fn choices(pickup: PickupType, drop_off: DropOffType) -> [u8; 7]
+    ensures ascii { IsAscii result }
+    ensures text { result ≡ fields_text default_writer (choice_fields pickup drop_off None)
+        ++ line_feed ∷ [] }
+{
+    let pickup = digit(pickup.number());
+    let drop_off = digit(drop_off.number());
+    [b',', b',', pickup, b',', drop_off, b',', b'\n']
+}
+
+// The same where it is said whether the times are exact.
+pub(crate) fn choices_with_timepoint(
+    pickup: PickupType,
+    drop_off: DropOffType,
+    timepoint: Timepoint,
+) -> [u8; 8]
+    ensures ascii { IsAscii result }
+    ensures text { result ≡ fields_text default_writer
+        (choice_fields pickup drop_off (Some timepoint)) ++ line_feed ∷ [] }
+{
+    let pickup = digit(pickup.number());
+    let drop_off = digit(drop_off.number());
+    let timepoint = digit(timepoint.number());
+    [b',', b',', pickup, b',', drop_off, b',', timepoint, b'\n']
 }
 
 // The last digit of a number.

@@ -7,6 +7,7 @@ ghost use Rattle.gtfs_columns.specs.Columns.{Kind, choice, coordinate, count, ti
 ghost use Rattle.gtfs_columns.specs.Values.{amount, word};
 ghost use Rattle.gtfs_rows.specs.Cells.{cell_text};
 ghost use Rattle.gtfs_rows.specs.RowCells.{value_of_number as numbered};
+ghost use Rattle.gtfs_writing.specs.Taking.{choice_fields, with_fields};
 
 use crate::digits::{one_digit, short_time, two_digits};
 use crate::sink::Sink;
@@ -15,6 +16,7 @@ use gtfs_field::{
     Clock, Colour, Coord, Day, OutOfMemory, Text, push_colour, push_coord, push_count, push_date,
     push_time,
 };
+use gtfs_rows::{DropOffType, PickupType, Timepoint};
 use gtfs_table::File;
 use std::alloc::Global;
 use std::marker::Model;
@@ -45,6 +47,10 @@ impl<S: Sink> Fields<S> {
             buffer: String::new(alloc),
             alloc,
         }
+    }
+
+    pub(crate) fn alloc(&self) -> Global {
+        self.alloc
     }
 
     pub(crate) fn into_rows(self) -> S
@@ -99,16 +105,6 @@ impl<S: Sink> Fields<S> {
         ensures { OnOk result (self.new ≡ S.takes.next self.old field.now) }
     {
         self.rows.next(field)
-    }
-
-    // The same of one that is mostly empty.
-    pub(crate) fn text_if_any(&mut self, field: &str) -> Result<(), OutOfMemory>
-        ensures { OnOk result (self.new ≡ S.takes.next self.old field.now) }
-    {
-        match field {
-            "" => self.nothing(),
-            _ => self.text(field),
-        }
     }
 
     // An empty field.
@@ -207,6 +203,61 @@ impl<S: Sink> Fields<S> {
             Some(clock) => self.time(clock),
             None => self.nothing(),
         }
+    }
+
+    // Two times, which in most rows are the same.
+    #[inline(always)]
+    pub(crate) fn optional_times(
+        &mut self,
+        first: Option<Clock>,
+        second: Option<Clock>,
+    ) -> Result<(), OutOfMemory>
+        ensures { OnOk result (self.new ≡ S.takes.next
+            (S.takes.next self.old (cell_text time (option_map numbered first)))
+            (cell_text time (option_map numbered second))) }
+    {
+        if first != second {
+            self.optional_time(first)?;
+            return self.optional_time(second);
+        }
+        match first {
+            Some(clock) => self.time_twice(clock),
+            None => {
+                self.nothing()?;
+                self.nothing()
+            }
+        }
+    }
+
+    // A time in two fields, made once.
+    #[inline(always)]
+    fn time_twice(&mut self, clock: Clock) -> Result<(), OutOfMemory>
+        ensures { OnOk result (self.new
+            ≡ S.takes.next (S.takes.next self.old (time_text clock)) (time_text clock)) }
+    {
+        let seconds = clock.seconds();
+        if seconds < HUNDRED_HOURS {
+            let text = short_time(seconds);
+            self.plain(&text)?;
+            self.plain(&text)
+        } else {
+            self.long_time(clock)?;
+            self.long_time(clock)
+        }
+    }
+
+    // The last fields of a stop time that has no headsign, and the end of the row.
+    #[inline(always)]
+    pub(crate) fn choices(
+        &mut self,
+        pickup: PickupType,
+        drop_off: DropOffType,
+        timepoint: Option<Timepoint>,
+    ) -> Result<(), OutOfMemory>
+        ensures { OnOk result (self.new ≡ S.takes.last
+            (with_fields S.takes self.old (choice_fields pickup drop_off timepoint))) }
+    {
+        self.rows.choices(pickup, drop_off, timepoint)
     }
 
     pub(crate) fn date(&mut self, day: Day) -> Result<(), OutOfMemory>

@@ -28,6 +28,7 @@ mod quoting;
 mod room_rows;
 mod routes;
 mod sink;
+mod stop_ids;
 mod stop_times;
 mod stops;
 mod table_rows;

@@ -16,7 +16,7 @@ pub(crate) fn agency_id(parts: &Parts, agency: AgencyNo) -> &str
     parts.agencies.as_slice()[agency.0].agency_id.as_str()
 }
 
-pub(crate) fn stop_id(parts: &Parts, stop: StopNo) -> &str
+fn stop_id(parts: &Parts, stop: StopNo) -> &str
     requires { stop.0 < length parts.now.stops }
     ensures { result.now ≡ text_of_number (stop_ids parts.now) stop.0 }
 {

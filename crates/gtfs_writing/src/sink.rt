@@ -1,9 +1,11 @@
 ghost use Rattle.std.specs.Prelude.{◌≡◌, ◌∷◌, drop, OnOk, false};
 ghost use Rattle.std.specs.Str.{IsAscii};
 ghost use Rattle.csv.specs.Writing.{comma, default_writer, needs_quotes};
-ghost use Rattle.gtfs_writing.specs.Taking.{Taking};
+ghost use Rattle.gtfs_writing.specs.Taking.{Taking, choice_fields, with_fields};
 
+use crate::digits::one_digit;
 use gtfs_field::OutOfMemory;
+use gtfs_rows::{DropOffType, PickupType, Timepoint};
 
 // What takes rows field by field.
 pub(crate) trait Sink {
@@ -37,4 +39,24 @@ pub(crate) trait Sink {
     // The end of the row.
     fn last(&mut self) -> Result<(), OutOfMemory>
         ensures { OnOk result (self.new ≡ takes.last self.old) };
+
+    // The last fields of a stop time that has no headsign, and the end of the row.
+    fn choices(
+        &mut self,
+        pickup: PickupType,
+        drop_off: DropOffType,
+        timepoint: Option<Timepoint>,
+    ) -> Result<(), OutOfMemory>
+        ensures { OnOk result (self.new ≡ takes.last
+            (with_fields takes self.old (choice_fields pickup drop_off timepoint))) }
+    {
+        self.plain_with_comma(b",")?;
+        self.plain_with_comma(&one_digit(pickup.number()))?;
+        self.plain_with_comma(&one_digit(drop_off.number()))?;
+        match timepoint {
+            Some(timepoint) => self.plain_with_comma(&one_digit(timepoint.number()))?,
+            None => self.plain_with_comma(b",")?,
+        }
+        self.last()
+    }
 }

@@ -2,9 +2,11 @@
 //! so that it is made at once and the text need not grow.
 ghost use Rattle.std.specs.Prelude.{◌≡◌, [], IfOk};
 ghost use Rattle.gtfs_rows.specs.Views.{IsSoundParts};
+ghost use Rattle.gtfs_writing.specs.Plain.{AreIdsOf};
 
 use crate::fields::Fields;
 use crate::room_rows::RoomRows;
+use crate::stop_ids::StopIds;
 use crate::stop_times::write_trip_rows;
 use crate::text_rows::TextRows;
 use gtfs_field::OutOfMemory;
@@ -48,8 +50,9 @@ fn likely_length(alloc: Global, parts: &Parts, file: File) -> Result<usize, OutO
 fn likely_stop_times(alloc: Global, parts: &Parts) -> Result<usize, OutOfMemory>
     requires { IsSoundParts parts.now }
 {
+    let stop_ids = StopIds::of(alloc, parts.stops.as_slice())?;
     let mut rows = Fields::new(alloc, RoomRows::new(u64::MAX));
-    let outcome = count_some_trips(parts, &mut rows);
+    let outcome = count_some_trips(parts, &stop_ids, &mut rows);
     let left = rows.into_rows().left();
     let counted = outcome?.max(1) as u64;
     let bytes = u64::MAX - left.unwrap_or(0);
@@ -58,15 +61,20 @@ fn likely_stop_times(alloc: Global, parts: &Parts) -> Result<usize, OutOfMemory>
 }
 
 // Takes the rows of some trips, and answers how many they are.
-fn count_some_trips(parts: &Parts, rows: &mut Fields<RoomRows>) -> Result<usize, OutOfMemory>
-    requires { IsSoundParts parts.now }
+fn count_some_trips(
+    parts: &Parts,
+    stop_ids: &StopIds,
+    rows: &mut Fields<RoomRows>,
+) -> Result<usize, OutOfMemory>
+    requires sound { IsSoundParts parts.now }
+    requires stops { AreIdsOf parts.now.stops stop_ids.now }
 {
     let trips = parts.trips.as_slice();
     let mut counted: usize = 0;
     for (n, trip) in trips.iter().enumerate() {
         if n % TRIPS == 0 {
             let of_trip = parts.stop_times.of_trip(n);
-            write_trip_rows(parts, trip.trip_id.as_str(), false, of_trip, rows)?;
+            write_trip_rows(parts, trip.trip_id.as_str(), stop_ids, of_trip, rows)?;
             counted = counted.saturating_add(of_trip.len());
         }
     }

@@ -3,10 +3,11 @@ ghost use Rattle.std.specs.Str.{IsUtf8};
 ghost use Rattle.csv.specs.Writing.{default_writer, escaped, field_text, quoted};
 ghost use Rattle.gtfs_writing.specs.Taking.{into_text};
 
-use crate::digits::as_text;
+use crate::digits::{as_text, choices, choices_with_timepoint};
 use crate::quoting::is_quoted;
 use crate::sink::Sink;
 use gtfs_field::OutOfMemory;
+use gtfs_rows::{DropOffType, PickupType, Timepoint};
 use std::marker::Model;
 
 // Rows as the text of a file:
@@ -73,6 +74,23 @@ impl Sink for TextRows {
     fn last(&mut self) -> Result<(), OutOfMemory> {
         self.text.push_str("\n")?;
         Ok(())
+    }
+
+    // In one piece: a text is made row by row of millions of stop times.
+    #[inline(always)]
+    fn choices(
+        &mut self,
+        pickup: PickupType,
+        drop_off: DropOffType,
+        timepoint: Option<Timepoint>,
+    ) -> Result<(), OutOfMemory> {
+        match timepoint {
+            Some(timepoint) => {
+                let bytes = choices_with_timepoint(pickup, drop_off, timepoint);
+                self.text.push_str(as_text(&bytes))
+            }
+            None => self.text.push_str(as_text(&choices(pickup, drop_off))),
+        }
     }
 }
 

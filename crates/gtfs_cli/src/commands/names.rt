@@ -1,9 +1,9 @@
-ghost use Rattle.std.specs.Prelude.{◌≡◌, ◌≤◌, flat_map, length, IfErr, OnOk, OnErr};
+ghost use Rattle.std.specs.Prelude.{◌≡◌, ◌≤◌, Some, flat_map, length, IfErr, OnOk, OnErr};
 ghost use Rattle.std.specs.Io.KnownBytes.{Appends};
 ghost use Rattle.gtfs_merge.specs.Near.{near_line};
 ghost use Rattle.gtfs_merge.specs.Report.{kinds, renamed_line};
 ghost use Rattle.gtfs_cli.specs.Checking.{IsSendingCause};
-ghost use Rattle.gtfs_cli.specs.NamesReport.{both_lines, count_line, id_line, ids_report, names_report, near_text, side_lines};
+ghost use Rattle.gtfs_cli.specs.NamesReport.{both_lines, count_line, ids_report, named_line, names_report, near_text, side_lines};
 ghost use Rattle.gtfs_cli.specs.Sending.{SendsBeginning};
 
 use crate::commands::refusal::Refusal;
@@ -109,33 +109,32 @@ fn print_side<'w, O: Out>(
     ensures grows { O.failure_count out.old ≤ O.failure_count out.new }
     ensures no_failure { OnOk result (O.failure_count out.new ≡ O.failure_count out.old) }
 {
-    for id in names.ids(side, kind) {
-        print_id(names, side, kind, id.as_str(), line, out)?;
+    let ids = names.ids(side, kind);
+    for (number, id) in ids.iter().enumerate() {
+        let name = names.by_number(side, kind, number);
+        print_id(side, kind, id.as_str(), name, line, out)?;
     }
     Ok(())
 }
 
-// The line of an id, if it changes.
+// The line of an id that became this name, if it changes.
 fn print_id<'w, O: Out>(
-    names: &Names,
     side: Side,
     kind: Kind,
     id: &str,
+    name: &str,
     line: &mut String,
     out: &mut O,
 ) -> Result<(), Refusal<'w>>
     ensures printed { OnOk result (Appends (O.told out.old) (O.told out.new)
-        (id_line names.now side kind id.now)) }
+        (named_line side kind id.now (Some name.now))) }
     ensures cut_short { OnErr result (SendsBeginning (O.told out.old) (O.told out.new)
-        (id_line names.now side kind id.now)) }
+        (named_line side kind id.now (Some name.now))) }
     ensures refused { IfErr result (IsSendingCause (O.failure_count out.old)
         (O.failure_count out.new)) }
     ensures grows { O.failure_count out.old ≤ O.failure_count out.new }
     ensures no_failure { OnOk result (O.failure_count out.new ≡ O.failure_count out.old) }
 {
-    let Some(name) = names.of(side, kind, id) else {
-        return Ok(());
-    };
     if name == id {
         return Ok(());
     }

@@ -1,5 +1,4 @@
 use Rattle.std.proofs.Common.{◌∙◌, [], ap, map, sym}
-use Rattle.std.specs.List.{list_all}
 use Rattle.std.proofs.lemmas.Option.{get_or_from_slice_get}
 use Rattle.gtfs_columns.specs.Columns.{columns_of}
 use Rattle.gtfs_rows.specs.Cells.{record_text}
@@ -7,14 +6,9 @@ use Rattle.gtfs_rows.specs.RowCells.{stop_time_cells, held_by}
 use Rattle.gtfs_rows.specs.Views.{stop_row_of, stop_time_names_rows}
 use Rattle.gtfs_table.specs.declared.file.File.TheVariants as file
 use Rattle.gtfs_table.proofs.PartFacts.{all_in_part}
-use Rattle.gtfs_writing.specs.Plain.{is_plain_stop}
 use Rattle.gtfs_writing.specs.Taking.{with_rows}
 use Rattle.gtfs_writing.proofs.Items.{after_trip, left-none, stop_rows_by_trip}
 use Rattle.gtfs_writing.proofs.stop_times.write_stop_times.Goals as goal
-
-pub write_trip_rows-requires-clause-plain : goal.write_trip_rows-requires-clause-plain
-write_trip_rows-requires-clause-plain g c =
-    λ plain. ap (list_all is_plain_stop) (sym c.as_slice.ensures) ∙ sym c.has_plain_stop_ids-has_plain_stops.ensures ∙ plain
 
 pub write_trip_rows-requires-clause-names : goal.write_trip_rows-requires-clause-names
 write_trip_rows-requires-clause-names g c =

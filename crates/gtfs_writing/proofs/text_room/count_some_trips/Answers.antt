@@ -4,4 +4,4 @@ use Rattle.gtfs_writing.proofs.text_room.count_some_trips.Goals as goal
 
 pub write_trip_rows-requires-clause-names : goal.write_trip_rows-requires-clause-names
 write_trip_rows-requires-clause-names c =
-    all_in_part (stop_time_names_rows c.args.parts.now) _ _ _ _ c.requires.names_rows.stop_rows c.of_trip-of_trip.ensures
+    all_in_part (stop_time_names_rows c.args.parts.now) _ _ _ _ c.requires.sound.names_rows.stop_rows c.of_trip-of_trip.ensures

@@ -4,9 +4,9 @@ use Rattle.std.specs.Io.KnownBytes.{Appends}
 use Rattle.gtfs_cli.specs.NamesReport.{id_line}
 use Rattle.gtfs_cli.proofs.commands.names.print_side.Given as goal
 
-abbrev pub invariant-loop-id : goal.invariant-loop-id
-invariant-loop-id g l = record {
-  sent : Appends (g.O.Out.told l.initial.out) (g.O.Out.told l.out) (flat_map (id_line l.names l.side l.kind) (take l.id-index l.id-items));
+abbrev pub invariant-loop-number : goal.invariant-loop-number
+invariant-loop-number g l = record {
+  sent : Appends (g.O.Out.told l.initial.out) (g.O.Out.told l.out) (flat_map (id_line l.names l.side l.kind) (take l.number l.ids));
   grows : g.O.Out.failure_count l.initial.out ≤ g.O.Out.failure_count l.out;
   no_failure : g.O.Out.failure_count l.out ≡ g.O.Out.failure_count l.initial.out;
 }

@@ -12,7 +12,7 @@ by_number-requires c =
 pub returns-in-Some : goal.returns-in-Some
 returns-in-Some c =
     let r = c.self.inside in
-    ap Some c.by_number.ensures
+    ap Some c.by_number.ensures.name
     ∙ name-found r.ids.items r.names.items c.self.invariant.0 c.args.self.now c.self.view_is c.args.id.now c.in-Some.number
     (ap (position (bytes_eq c.args.id.now)) (sym c.deref.ensures.value) ∙ sym c.number_of.ensures ∙ c.in-Some.is)
 

@@ -1,21 +1,15 @@
-use Rattle.std.proofs.Common.{◌≡◌, ◌∙◌, ◌<◌, ◌≤◌, ◌++◌, ◌∷◌, [], ℕ, List, true, ap, arith, codes, get_or, length, map, refl, subst, sym}
-use Rattle.std.specs.Ordering.{nat_cmp}
+use Rattle.std.proofs.Common.{◌≡◌, ◌∙◌, ◌<◌, ◌≤◌, ◌++◌, ◌∷◌, [], ℕ, List, ap, arith, get_or, length, map, subst, sym}
 use Rattle.std.proofs.lemmas.List.{length-append, length-map}
 use Rattle.csv.specs.Records.{Rising}
 use Rattle.gtfs_table.specs.Parts.{parts}
-use Rattle.gtfs_table.specs.Rows.{is_row, records_in}
-use Rattle.gtfs_table.specs.declared.file.File.TheVariants as file
 use Rattle.gtfs_table.proofs.PartFacts.{length-parts, parts-push}
-use Rattle.gtfs_columns.specs.Columns.{id, required}
 use Rattle.gtfs_columns.specs.steps.Ids.{rows_by_number}
 use Rattle.gtfs_rows.specs.declared.frequency.Frequency.{Frequency as FrequencyRow}
-use Rattle.gtfs_rows.specs.Order.{by_key}
-use Rattle.gtfs_rows.specs.Reading.{frequency_in, rows_of, trip_in}
+use Rattle.gtfs_rows.specs.Reading.{trip_in}
 use Rattle.gtfs_rows.specs.Views.{frequency_of}
 use Rattle.gtfs_reading.proofs.ByIds.{as_many}
 use Rattle.gtfs_rows.proofs.Cuts.{first_push, no_parts, rising_none, rising_push}
-use Rattle.gtfs_reading.proofs.Fields.{field_is, listed_all, listed_next, numbered_row}
-use Rattle.gtfs_reading.proofs.IdTexts.{text_at_is}
+use Rattle.gtfs_reading.proofs.Fields.{listed_all, listed_next}
 use Rattle.gtfs_reading.proofs.frequencies.FrequencyFile.push_by_trip.Goals as goal
 
 pub loop-number-init : goal.loop-number-init
@@ -36,19 +30,14 @@ loop-number-preserved c =
     let ns = rows_by_number c.args.trips.now in
     let k = c.loop-number.number in
     let below : k < length ns = omega (arith, c.loop-number-test.true, c.loop-number.invariant.end) in
-    let row : is_row (records_in d file.Trips) c.row.result ≡ true = numbered_row d file.Trips (codes "trip_id") c.args.trips.now c.requires.trips k c.row.result below c.row.ensures in
-    let text = field_is _ d c.self.view_is file.Trips c.row.result _ c.column-trip_id.result "trip_id" _ c.record-record.ensures c.column-trip_id.ensures c.value.ensures in
-    let trip = text ∙ sym (text_at_is d c.requires.passes file.Trips c.row.result row "trip_id" (required "trip_id" id) refl refl) in
     let said : map frequency_of c.in_ok-periods.periods.items ≡ (trip_in d (get_or ns k 0)).frequencies =
-    c.in_ok-periods.ensures
-    ∙ ap (λ t. by_key nat_cmp (λ r. r.start_time) (map (frequency_in d) (rows_of d file.Frequencies t))) trip
-    ∙ ap (λ n. (trip_in d n).frequencies) c.row.ensures in
+    c.in_ok-periods.ensures in
     let starts = c.loop-number.starts.items in
     let fs = c.loop-number.rows.items in
     let ys = c.in_ok-periods.periods.items in
     let start_is : c.len.result ≡ length fs = omega (arith, c.len.ensures, c.loop-number.rows.ok.0) in
     let starts_are = c.in_ok-push.ensures.items ∙ ap (λ n. starts ++ n ∷ []) start_is in
-    let rows_are = c.in_ok-extend_from_slice.ensures.items ∙ ap (λ zs. fs ++ zs) c.deref.ensures.value in
+    let rows_are = c.in_ok-extend_from_slice.ensures.items ∙ ap (λ zs. fs ++ zs) c.deref-in-loop-number.ensures.value in
     record {
       listed = (λ i. map (map frequency_of) (parts (starts_are i) (rows_are i)))
           ∙ ap (map (map frequency_of)) (parts-push 0 starts fs ys c.loop-number.invariant.rising)
