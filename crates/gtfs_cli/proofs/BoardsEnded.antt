@@ -7,14 +7,13 @@ use Rattle.gtfs_devices.specs.Device.{Rises}
 use Rattle.gtfs_devices.specs.Folder.{Store}
 use Rattle.gtfs_commands.specs.Words.{boards_texts_of, BoardsTexts}
 use Rattle.gtfs_cli.specs.BoardsRun.{AreListed, AreUnlisted, IsBoardsRun}
-use Rattle.gtfs_cli.specs.Checking.{IsSendingCause}
 use Rattle.gtfs_cli.specs.FileRead.{IsPathCause, IsZoneCause}
 use Rattle.gtfs_cli.specs.ManyBoards.{IsBoardsCause, IsLineCause, IsRequestsCause}
 use Rattle.gtfs_cli.specs.Messages.{message}
 use Rattle.gtfs_cli.specs.Refusals.{request_status, status_in, status_of, IsReadingCause}
 use Rattle.gtfs_cli.specs.Asking.{AsksBoards}
 use Rattle.gtfs_cli.specs.Failures.{Failures}
-use Rattle.gtfs_cli.specs.Sending.{Output, Sends}
+use Rattle.gtfs_cli.specs.Sending.{IsSendingCause, Output, Sends}
 use Rattle.gtfs_cli.specs.Statuses.{HasBadLine, IsBadUsage, IsDeviceFault, KeepsFromBoards, KeepsFromFile}
 use Rattle.gtfs_cli.specs.declared.commands.refusal.Refusal.{Refusal}
 use Rattle.gtfs_cli.specs.declared.commands.refusal.Refusal.TheVariants.{NotThere, Unreadable, OverLimit, HasErrors, NoZone, Line, OutputFailed, OutOfMemory}

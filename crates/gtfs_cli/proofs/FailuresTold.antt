@@ -1,7 +1,7 @@
 -- Which devices failed where a refusal is told.
 use Rattle.std.proofs.Common.{◌≡◌, ◌≢◌, ◌∙◌, ℕ, Bool, Result, Ok, Err, refl, subst}
 use Rattle.std.specs.Prelude.{IfErr, IsErrAnd, OnOk}
-use Rattle.gtfs_cli.specs.Checking.{IsSendingCause}
+use Rattle.gtfs_cli.specs.Sending.{IsSendingCause}
 use Rattle.gtfs_cli.specs.Refusals.{status_in, status_of, TellsFailure, TellsFolders, TellsOutput}
 use Rattle.gtfs_cli.specs.Failures.{FailedNowhere, Failures}
 use Rattle.gtfs_cli.specs.declared.commands.refusal.Refusal.{Refusal}

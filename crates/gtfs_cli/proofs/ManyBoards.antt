@@ -11,7 +11,7 @@ use Rattle.gtfs_rows.specs.Views.{content_of_parts}
 use Rattle.gtfs_rows.specs.declared.parts.Parts.{Parts as Feed}
 use Rattle.gtfs_commands.specs.Words.{BoardsTexts}
 use Rattle.gtfs_cli.specs.Boards.{HoldsFeed}
-use Rattle.gtfs_cli.specs.Checking.{IsSendingCause}
+use Rattle.gtfs_cli.specs.Sending.{IsSendingCause}
 use Rattle.gtfs_cli.specs.FileRead.{IsPathCause, IsZoneCause}
 use Rattle.gtfs_cli.specs.ManyBoards.{AreAllBoards, BoardsSetting, BeginsBoard, BeginsWhole, EndsBoards, EndsRequests, IsBoardsCause, IsFileFault, IsRequestsCause, IsRequestsFault, PrintsBoards, PrintsRequests, StopsIn, StopsInBoards}
 use Rattle.gtfs_cli.specs.Options.{times_of}

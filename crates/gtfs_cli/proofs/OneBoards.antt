@@ -9,7 +9,7 @@ use Rattle.gtfs_rows.specs.Content.{Content}
 use Rattle.gtfs_rows.specs.Departures.{Origins}
 use Rattle.gtfs_rows.specs.Reading.{content_of}
 use Rattle.gtfs_commands.specs.Words.{BoardsTexts}
-use Rattle.gtfs_cli.specs.Checking.{IsSendingCause}
+use Rattle.gtfs_cli.specs.Sending.{IsSendingCause}
 use Rattle.gtfs_cli.specs.FileRead.{HoldsSomeZone, IsZoneCause}
 use Rattle.gtfs_cli.specs.ManyBoards.{AreBoards, BoardsSetting, IsBoardsCause, IsLineCause, IsRequestsCause, requests_at}
 use Rattle.gtfs_cli.specs.Messages.{line_of, message, request_line, request_text}

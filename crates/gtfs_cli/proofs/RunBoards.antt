@@ -4,7 +4,6 @@ use Rattle.std.specs.Io.KnownBytes.{Keeps}
 use Rattle.gtfs_devices.specs.Folder.{Store}
 use Rattle.gtfs_commands.specs.Words.{BoardsTexts}
 use Rattle.gtfs_cli.specs.BoardsRun.{AreBoardsRefused, IsBoardsRun}
-use Rattle.gtfs_cli.specs.Checking.{IsSendingCause}
 use Rattle.gtfs_cli.specs.FileRead.{IsPathCause, IsZoneCause}
 use Rattle.gtfs_cli.specs.ManyBoards.{EndsBoards, IsBoardsCause, IsRequestsCause, PrintsBoards}
 use Rattle.gtfs_cli.specs.Messages.{message}
@@ -12,7 +11,7 @@ use Rattle.gtfs_cli.specs.Outcomes.{none_failed, IsBoardsOutcome}
 use Rattle.gtfs_cli.specs.Refusals.{status_of, IsReadingCause}
 use Rattle.gtfs_cli.specs.RunEnds.{EndsAsOne, IsUnhindered}
 use Rattle.gtfs_cli.specs.Failures.{Failures}
-use Rattle.gtfs_cli.specs.Sending.{Output}
+use Rattle.gtfs_cli.specs.Sending.{IsSendingCause, Output}
 use Rattle.gtfs_cli.specs.declared.commands.refusal.Refusal.{Refusal}
 use Rattle.gtfs_cli.specs.declared.commands.refusal.Refusal.TheVariants.{NoZone, Unreadable, OutputFailed, OutOfMemory}
 use Rattle.gtfs_cli.proofs.Outcomes.{refused}

@@ -15,11 +15,10 @@ use Rattle.gtfs_board.specs.Timetable.{is_route, sheet_text}
 use Rattle.gtfs_board.specs.declared.sheet.Sheet.{Sheet}
 use Rattle.gtfs_commands.specs.Words.{TimetableTexts}
 use Rattle.gtfs_cli.specs.Boards.{HoldsFeed}
-use Rattle.gtfs_cli.specs.Checking.{IsSendingCause}
 use Rattle.gtfs_cli.specs.Messages.{message}
 use Rattle.gtfs_cli.specs.Refusals.{status_in}
 use Rattle.gtfs_cli.specs.Failures.{Failures}
-use Rattle.gtfs_cli.specs.Sending.{Output, Sends, SendsBeginning}
+use Rattle.gtfs_cli.specs.Sending.{IsSendingCause, Output, Sends, SendsBeginning}
 use Rattle.gtfs_cli.specs.TimetableOptions.{IsTimetableRequest, TimetableRequest}
 use Rattle.gtfs_cli.specs.TimetableRun.{IsTabled, IsTimetableRun, IsUntabled}
 use Rattle.gtfs_cli.specs.Timetables.{timetable_text, BeginsSheets, BeginsTimetable, EndsSheets, EndsTimetable, IsFirstBadTimetable, IsSheetsCause, IsTimetableCause, IsTimetableText, PrintsTimetable, TimetableSetting}

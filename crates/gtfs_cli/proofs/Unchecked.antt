@@ -5,10 +5,10 @@ use Rattle.std.specs.Io.KnownBytes.{Keeps}
 use Rattle.gtfs_devices.specs.Folder.{Store}
 use Rattle.gtfs_cli.specs.CheckRun.{BeginsReport, EndsCheck, IsCheckRun, IsUnchecked}
 use Rattle.gtfs_cli.specs.Refusals.{status_in, status_of, IsCheckCause}
-use Rattle.gtfs_cli.specs.Checking.{IsReportOf, IsSendingCause}
+use Rattle.gtfs_cli.specs.Checking.{IsReportOf}
 use Rattle.gtfs_cli.specs.Messages.{message}
 use Rattle.gtfs_cli.specs.Failures.{Failures}
-use Rattle.gtfs_cli.specs.Sending.{Output, Sends}
+use Rattle.gtfs_cli.specs.Sending.{IsSendingCause, Output, Sends}
 use Rattle.gtfs_cli.specs.declared.commands.refusal.Refusal.{Refusal}
 use Rattle.gtfs_cli.specs.declared.commands.refusal.Refusal.TheVariants.{NotThere, Unreadable, OverLimit, OutputFailed, OutOfMemory}
 use Rattle.gtfs_cli.proofs.Endings.{CheckAside}

@@ -15,14 +15,13 @@ use Rattle.gtfs_merge.specs.Merging.{IsMergeOf, KeepsDepartures}
 use Rattle.gtfs_merge.specs.declared.merging.Merged.{Merged}
 use Rattle.gtfs_commands.specs.Words.{MergeTexts}
 use Rattle.gtfs_cli.specs.Boards.{HoldsFeed}
-use Rattle.gtfs_cli.specs.Checking.{IsSendingCause}
 use Rattle.gtfs_cli.specs.MergeOptions.{HasMergeValues, IsMergeRequest, MergeRequest}
 use Rattle.gtfs_cli.specs.MergeParts.{HoldsMerge, IsFirstBadMerge}
 use Rattle.gtfs_cli.specs.Merges.{file_limit, merge_of, report_for, CanMerge, EndsMerge, HoldsFiles, IsFolderMerge, IsMergeCause, IsMergeFault, IsMergingCause, IsUntouched, IsWritingEnd, IsWritten, MergeSetting, ReadsAgain, StopsAtOne}
 use Rattle.gtfs_cli.specs.NamesReport.{names_report}
 use Rattle.gtfs_cli.specs.Refusals.{IsReadingCause}
 use Rattle.gtfs_cli.specs.Failures.{FailedNowhere, Failures}
-use Rattle.gtfs_cli.specs.Sending.{SendsBeginning}
+use Rattle.gtfs_cli.specs.Sending.{IsSendingCause, SendsBeginning}
 use Rattle.gtfs_cli.specs.declared.commands.refusal.Refusal.{Refusal}
 use Rattle.gtfs_cli.specs.declared.commands.refusal.Refusal.TheVariants.{BadValue, NotThere, Unreadable, OverLimit, HasErrors, ZonesDiffer, MergeTooLarge, Unwritable, OutputFailed, OutOfMemory}
 use Rattle.gtfs_cli.proofs.Endings.{counts}

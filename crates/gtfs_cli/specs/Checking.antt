@@ -1,15 +1,12 @@
 -- What `gtfs check` prints, and what it answers.
 use Rattle.std.specs.Prelude.{◌≡◌, ℕ, ◌+◌, Bool, not, List, ◌++◌, length, codes, decimal, Option}
 use Rattle.std.specs.Io.KnownBytes.{Appends}
-use Rattle.gtfs_devices.specs.Device.{Rises}
 use Rattle.gtfs_devices.specs.Folder.{Store}
 use Rattle.gtfs_table.specs.Tables.{Dataset}
 use Rattle.gtfs_columns.specs.Codes.{code_name, code_text}
 use Rattle.gtfs_columns.specs.Problems.{Problem, name_bytes, passes, IsReport}
 use Rattle.gtfs_rules.specs.Report.{report_text}
 use Rattle.gtfs_cli.specs.HeldFiles.{HoldsTables}
-use Rattle.gtfs_cli.specs.declared.commands.refusal.Refusal.{Refusal}
-use Rattle.gtfs_cli.specs.declared.commands.refusal.Refusal.TheVariants.{OutputFailed, OutOfMemory}
 
 -- how many bytes of a problem's line are names or texts of its code
 abbrev pub names_len : Problem → ℕ
@@ -31,9 +28,3 @@ pub record IsReportOf (limit : ℕ) (held : Option Store) (dir : List ℕ) (befo
   pub holds : HoldsTables limit held dir dataset
   pub is_report : IsReport dataset problems
   pub prints : Prints before after problems failed
-
--- why lines were not sent out; the counts are those of the output's failures, before and after
-abbrev pub IsSendingCause : ℕ → ℕ → Refusal → Type 0
-IsSendingCause before after OutputFailed = Rises before after
-IsSendingCause before after OutOfMemory = after ≡ before
-IsSendingCause before after _ = ⊥

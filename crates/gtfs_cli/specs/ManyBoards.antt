@@ -11,7 +11,7 @@ use Rattle.gtfs_rows.specs.Reading.{content_of}
 use Rattle.gtfs_board.specs.Page.{IsCutShort, IsPage, IsStopped}
 use Rattle.gtfs_commands.specs.Words.{BoardsTexts}
 use Rattle.gtfs_cli.specs.Boards.{GoesOut, OfBoard}
-use Rattle.gtfs_cli.specs.Checking.{IsSendingCause}
+use Rattle.gtfs_cli.specs.Sending.{IsSendingCause}
 use Rattle.gtfs_cli.specs.FileRead.{HoldsNoUtf8, HoldsSomeZone, HoldsUtf8, IsPathCause, IsZoneCause}
 use Rattle.gtfs_cli.specs.Options.{times_of}
 use Rattle.gtfs_cli.specs.Refusals.{IsReadingCause}

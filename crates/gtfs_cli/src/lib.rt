@@ -53,6 +53,7 @@ mod ending;
 mod fault;
 mod law;
 mod report;
+mod seen;
 
 pub use commands::run;
 pub use ending::{close, tell};

@@ -7,7 +7,7 @@ ghost use Rattle.gtfs_rows.specs.Views.{content_of_parts};
 ghost use Rattle.gtfs_commands.specs.Words.{boards_texts_of};
 ghost use Rattle.gtfs_cli.specs.Boards.{request_of, ListsBoard};
 ghost use Rattle.gtfs_cli.specs.Calls.{MakesAtMost};
-ghost use Rattle.gtfs_cli.specs.Checking.{IsSendingCause};
+ghost use Rattle.gtfs_cli.specs.Sending.{IsSendingCause};
 ghost use Rattle.gtfs_cli.specs.LentRequests.{request_texts_of, stop_request_of};
 ghost use Rattle.gtfs_cli.specs.ManyBoards.{EndsBoards, EndsOne, EndsRequests, IsBoardsCause, IsFileFault, IsRequestsFault, PrintsBoards, PrintsOne, PrintsRequests};
 ghost use Rattle.gtfs_cli.specs.Options.{times_of};

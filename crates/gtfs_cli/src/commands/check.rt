@@ -4,10 +4,10 @@ ghost use Rattle.std.specs.Io.KnownBytes.{Appends};
 ghost use Rattle.gtfs_columns.specs.Codes.{is_error};
 ghost use Rattle.gtfs_rules.specs.Report.{problem_line, report_text};
 ghost use Rattle.gtfs_columns.specs.View.{problem_of};
-ghost use Rattle.gtfs_cli.specs.Checking.{counts_text, IsReportOf, IsSendingCause, Prints};
+ghost use Rattle.gtfs_cli.specs.Checking.{counts_text, IsReportOf, Prints};
 ghost use Rattle.gtfs_cli.specs.Calls.{MakesAtMost};
 ghost use Rattle.gtfs_cli.specs.CheckRun.{EndsCheck};
-ghost use Rattle.gtfs_cli.specs.Sending.{SendsBeginning};
+ghost use Rattle.gtfs_cli.specs.Sending.{IsSendingCause, SendsBeginning};
 ghost use Rattle.gtfs_cli.specs.Refusals.{IsCheckCause, TellsFailure};
 ghost use Rattle.gtfs_cli.specs.Failures.{FailedNowhere};
 

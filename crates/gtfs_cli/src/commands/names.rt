@@ -2,9 +2,8 @@ ghost use Rattle.std.specs.Prelude.{◌≡◌, ◌≤◌, Some, flat_map, length
 ghost use Rattle.std.specs.Io.KnownBytes.{Appends};
 ghost use Rattle.gtfs_merge.specs.Near.{near_line};
 ghost use Rattle.gtfs_merge.specs.Report.{kinds, renamed_line};
-ghost use Rattle.gtfs_cli.specs.Checking.{IsSendingCause};
 ghost use Rattle.gtfs_cli.specs.NamesReport.{both_lines, count_line, ids_report, named_line, names_report, near_text, side_lines};
-ghost use Rattle.gtfs_cli.specs.Sending.{SendsBeginning};
+ghost use Rattle.gtfs_cli.specs.Sending.{IsSendingCause, SendsBeginning};
 
 use crate::commands::refusal::Refusal;
 use crate::commands::send::send;

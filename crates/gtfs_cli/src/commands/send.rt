@@ -1,7 +1,6 @@
 ghost use Rattle.std.specs.Prelude.{◌≡◌, ◌≤◌, IfErr, OnOk, OnErr};
 ghost use Rattle.std.specs.Io.KnownBytes.{Appends};
-ghost use Rattle.gtfs_cli.specs.Checking.{IsSendingCause};
-ghost use Rattle.gtfs_cli.specs.Sending.{SendsBeginning};
+ghost use Rattle.gtfs_cli.specs.Sending.{IsSendingCause, SendsBeginning};
 
 use crate::commands::refusal::Refusal;
 use gtfs_table::{Out, write_text};

@@ -8,10 +8,9 @@ ghost use Rattle.gtfs_board.specs.LentSheets.{plain_sheet};
 ghost use Rattle.gtfs_board.specs.Timetable.{is_route, sheet_text, sheets};
 ghost use Rattle.gtfs_commands.specs.Words.{timetable_texts_of};
 ghost use Rattle.gtfs_cli.specs.Calls.{MakesAtMost};
-ghost use Rattle.gtfs_cli.specs.Checking.{IsSendingCause};
 ghost use Rattle.gtfs_cli.specs.Refusals.{TellsFailure, TellsOutput};
 ghost use Rattle.gtfs_cli.specs.Failures.{FailedNowhere};
-ghost use Rattle.gtfs_cli.specs.Sending.{SendsBeginning};
+ghost use Rattle.gtfs_cli.specs.Sending.{IsSendingCause, SendsBeginning};
 ghost use Rattle.gtfs_cli.specs.Timetables.{timetable_request_of, timetable_text, EndsSheets, EndsTimetable, IsSheetsCause, IsTimetableCause, PrintsTimetable};
 
 use crate::commands::feed::read_feed;

@@ -3,7 +3,7 @@ use Rattle.std.specs.Prelude.{IfErr, OnOk}
 use Rattle.gtfs_days.specs.declared.zone.Zone.{Zone}
 use Rattle.gtfs_rows.specs.Views.{content_of_parts}
 use Rattle.gtfs_cli.specs.Boards.{request_of, ListsBoard}
-use Rattle.gtfs_cli.specs.Checking.{IsSendingCause}
+use Rattle.gtfs_cli.specs.Sending.{IsSendingCause}
 use Rattle.gtfs_cli.specs.LentRequests.{stop_request_of}
 use Rattle.gtfs_cli.specs.ManyBoards.{EndsOne, PrintsOne}
 use Rattle.gtfs_cli.specs.declared.commands.refusal.Refusal.TheVariants.{OutOfMemory}

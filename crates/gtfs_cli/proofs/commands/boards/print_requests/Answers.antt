@@ -4,7 +4,7 @@ use Rattle.gtfs_days.specs.Zone.{zone_origin}
 use Rattle.gtfs_rows.specs.Views.{content_of_parts}
 use Rattle.gtfs_cli.specs.LentRequests.{stop_request_of}
 use Rattle.gtfs_cli.specs.ManyBoards.{EndsRequests}
-use Rattle.gtfs_cli.specs.Checking.{IsSendingCause}
+use Rattle.gtfs_cli.specs.Sending.{IsSendingCause}
 use Rattle.gtfs_cli.proofs.Endings.{told-up}
 use Rattle.gtfs_cli.proofs.FailuresTold.{sending-since}
 use Rattle.gtfs_cli.proofs.RequestBoards.{at_line, none_printed, one_cut, past_board, past_nothing, printed_all}

@@ -2,10 +2,9 @@ use Rattle.std.proofs.Common.{◌∙◌, arith, map}
 use Rattle.gtfs_table.proofs.FolderFacts.{on_err-always}
 use Rattle.gtfs_rules.specs.Report.{report_text}
 use Rattle.gtfs_columns.specs.View.{problem_of}
-use Rattle.gtfs_cli.specs.Sending.{SendsBeginning}
+use Rattle.gtfs_cli.specs.Sending.{IsSendingCause, SendsBeginning}
 use Rattle.gtfs_cli.proofs.Begun.{counts-cut, line-cut}
 use Rattle.gtfs_cli.proofs.Reported.{all-sent, line-sent}
-use Rattle.gtfs_cli.specs.Checking.{IsSendingCause}
 use Rattle.gtfs_cli.proofs.Endings.{told-up}
 use Rattle.gtfs_cli.proofs.FailuresTold.{sending-since}
 use Rattle.gtfs_cli.proofs.commands.check.print_problems.Goals as goal

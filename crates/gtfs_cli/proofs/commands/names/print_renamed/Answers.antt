@@ -3,9 +3,8 @@ use Rattle.std.specs.Prelude.{flat_map}
 use Rattle.gtfs_table.proofs.FolderFacts.{on_err-always}
 use Rattle.gtfs_merge.specs.Report.{kinds}
 use Rattle.gtfs_cli.specs.NamesReport.{both_lines}
-use Rattle.gtfs_cli.specs.Sending.{SendsBeginning}
+use Rattle.gtfs_cli.specs.Sending.{IsSendingCause, SendsBeginning}
 use Rattle.gtfs_cli.proofs.Sequences.{item-cut, item-sent, items-sent}
-use Rattle.gtfs_cli.specs.Checking.{IsSendingCause}
 use Rattle.gtfs_cli.proofs.Endings.{told-up}
 use Rattle.gtfs_cli.proofs.FailuresTold.{sending-since}
 use Rattle.gtfs_cli.proofs.commands.names.print_renamed.Goals as goal

@@ -7,9 +7,8 @@ use Rattle.gtfs_merge.specs.Names.{AllNames, in_kind, new_id, of_side}
 use Rattle.gtfs_merge.specs.declared.kind.Kind.{Kind}
 use Rattle.gtfs_merge.specs.declared.kind.Side.{Side}
 use Rattle.gtfs_cli.specs.NamesReport.{id_line, named_line, side_lines}
-use Rattle.gtfs_cli.specs.Sending.{SendsBeginning}
+use Rattle.gtfs_cli.specs.Sending.{IsSendingCause, SendsBeginning}
 use Rattle.gtfs_cli.proofs.Sequences.{item-cut, item-sent, items-sent}
-use Rattle.gtfs_cli.specs.Checking.{IsSendingCause}
 use Rattle.gtfs_cli.proofs.Endings.{told-up}
 use Rattle.gtfs_cli.proofs.FailuresTold.{sending-since}
 use Rattle.gtfs_cli.proofs.commands.names.print_side.Goals as goal

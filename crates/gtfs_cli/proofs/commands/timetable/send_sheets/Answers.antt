@@ -3,9 +3,8 @@ use Rattle.std.specs.Prelude.{flat_map}
 use Rattle.gtfs_table.proofs.FolderFacts.{on_err-always}
 use Rattle.gtfs_board.specs.LentSheets.{plain_sheet}
 use Rattle.gtfs_board.specs.Timetable.{sheet_text}
-use Rattle.gtfs_cli.specs.Sending.{SendsBeginning}
+use Rattle.gtfs_cli.specs.Sending.{IsSendingCause, SendsBeginning}
 use Rattle.gtfs_cli.proofs.Tabled.{sheet-cut, sheet-sent, sheets-sent}
-use Rattle.gtfs_cli.specs.Checking.{IsSendingCause}
 use Rattle.gtfs_cli.proofs.Endings.{told-up}
 use Rattle.gtfs_cli.proofs.FailuresTold.{sending-since}
 use Rattle.gtfs_cli.proofs.commands.timetable.send_sheets.Goals as goal
