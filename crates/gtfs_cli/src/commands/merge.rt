@@ -45,26 +45,9 @@ pub(super) fn print_merge<'w, F: Folders, O: Out>(
     folders: &mut F,
     out: &mut O,
 ) -> Result<(), Refusal<'w>>
-    ensures printed { OnOk result (PrintsMerge (F.limit folders.old) (F.held folders.old)
-        (merge_texts_of words.now) (F.held folders.new) (O.told out.old) (O.told out.new)) }
-    ensures cut_short { IfErr result (EndsMerge (F.limit folders.old) (F.held folders.old)
-        (merge_texts_of words.now) (F.held folders.new) (O.told out.old) (O.told out.new)) }
-    ensures refused { IfErr result (IsMergeCause (F.limit folders.old) (F.held folders.old)
-        (merge_texts_of words.now)
-        (record { folders = F.failure_count folders.old; output = O.failure_count out.old })
-        (record { folders = F.failure_count folders.new; output = O.failure_count out.new })) }
-    ensures folders_grow { F.failure_count folders.old ≤ F.failure_count folders.new }
-    ensures output_grows { O.failure_count out.old ≤ O.failure_count out.new }
-    ensures no_failure { OnOk result (FailedNowhere
-        (record { folders = F.failure_count folders.old; output = O.failure_count out.old })
-        (record { folders = F.failure_count folders.new; output = O.failure_count out.new })) }
-    ensures told { IfErr result (TellsFailure
-        (record { folders = F.failure_count folders.old; output = O.failure_count out.old })
-        (record { folders = F.failure_count folders.new; output = O.failure_count out.new })) }
-    ensures called { OnOk result (MakesCalls 29 (F.calls folders.old) (F.calls folders.new)) }
-    ensures few { MakesAtMost 29 (F.calls folders.old) (F.calls folders.new) }
-    ensures last { F.failure_count folders.new ≢ F.failure_count folders.old
-        → FailsAtLast (F.calls folders.new) }
+    ensures { Ends (merge_plan (F.limit folders.old) (F.held folders.old) (merge_texts_of words.now))
+        (⟦<(F, O) as DevicesSeen>⟧.seen (folders.old, out.old))
+        (⟦<(F, O) as DevicesSeen>⟧.seen (folders.new, out.new)) (answer_of result) }
 {
     let values = read_merge_values(words)?;
     // What is read first and what is made last lie in one piece of memory.
