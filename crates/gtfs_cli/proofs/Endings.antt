@@ -1,6 +1,6 @@
 -- Refusals, when they come, and the status that each gives.
-use Rattle.std.proofs.Common.{◌≡◌, ℕ, ◌≤◌, inl, inr, Bool, true, false, List, Option, Result, Ok, Err, sym, subst, ◌∙◌, arith}
-use Rattle.std.specs.Prelude.{IfErr, IsErrAnd}
+use Rattle.std.proofs.Common.{◌≡◌, ℕ, ◌≤◌, inl, inr, Bool, true, false, List, Option, Result, Ok, Err, sym, ◌∙◌, arith}
+use Rattle.std.specs.Prelude.{IfErr}
 use Rattle.gtfs_devices.specs.Folder.{Store}
 use Rattle.clap.specs.Words.{Text}
 use Rattle.gtfs_cli.specs.OptionValues.{HasValues}
@@ -18,6 +18,7 @@ use Rattle.gtfs_cli.specs.declared.commands.request_fault.RequestFault.TheVarian
 use Rattle.gtfs_cli.proofs.BoardsEnded.{device-by-boards, usage-by-boards}
 use Rattle.gtfs_cli.proofs.Ended.{is-some}
 use Rattle.gtfs_cli.proofs.MergeEnded.{device-by-merge, usage-by-merge}
+pub use Rattle.gtfs_cli.proofs.ReadsThen.{told-up}
 
 -- ---- why tables and files are not read
 
@@ -28,37 +29,25 @@ counts folders output = record { folders = folders; output = output }
 abbrev pub CheckAside : ℕ → Option Store → List ℕ → ℕ → ℕ → Refusal → Type 0
 CheckAside limit held dir x y r = (output : ℕ) → IsCheckCause limit held dir (counts x output) (counts y output) r
 
-abbrev pub ReadingAside : ℕ → Option Store → List ℕ → ℕ → ℕ → Refusal → Type 0
-ReadingAside limit held dir x y r = (output : ℕ) → IsReadingCause limit held dir (counts x output) (counts y output) r
-
--- what keeps the tables of a folder from being read, whatever the output did, keeps its feed from being read
-pub reading-cause : (limit : ℕ) (held : Option Store) (dir : List ℕ) (x y : ℕ) (r : Refusal) → CheckAside limit held dir x y r → ReadingAside limit held dir x y r
-reading-cause limit held dir x y (NotThere path) h = h
-reading-cause limit held dir x y (Unreadable path) h = h
-reading-cause limit held dir x y (OverLimit path) h = h
-reading-cause limit held dir x y OutputFailed h = absurd (omega (arith, h 0))
-reading-cause limit held dir x y OutOfMemory h = h
-reading-cause limit held dir x y _ h = absurd (h 0)
-
 -- what keeps the feed of a folder from being read keeps it from its board, where the options have values
-pub board-cause : (limit : ℕ) (held : Option Store) (asked : BoardTexts) (before after : Failures) (r : Refusal) → HasValues asked → IsReadingCause limit held asked.dir before after r
-    → IsCause limit held asked before after r
-board-cause limit held asked before after (NotThere path) v h = (v, inl h)
-board-cause limit held asked before after (Unreadable path) v h = (v, inl h)
-board-cause limit held asked before after (OverLimit path) v h = (v, inl h)
-board-cause limit held asked before after (HasErrors path) v h = (v, h.0, h.1)
-board-cause limit held asked before after OutOfMemory v h = h
-board-cause limit held asked before after _ v h = absurd h
+pub board-cause : (limit : ℕ) (held : Option Store) (asked : BoardTexts) (before after : Failures) → after.output ≡ before.output → (r : Refusal) → HasValues asked
+    → IsReadingCause limit held asked.dir before.folders after.folders r → IsCause limit held asked before after r
+board-cause limit held asked before after quiet (NotThere path) v h = (v, inl h)
+board-cause limit held asked before after quiet (Unreadable path) v h = (v, inl h)
+board-cause limit held asked before after quiet (OverLimit path) v h = (v, inl h)
+board-cause limit held asked before after quiet (HasErrors path) v h = (v, h.0, h.1)
+board-cause limit held asked before after quiet OutOfMemory v h = (h, quiet)
+board-cause limit held asked before after quiet _ v h = absurd h
 
 -- and from its timetable
-pub timetable-cause : (limit : ℕ) (held : Option Store) (asked : TimetableTexts) (before after : Failures) (r : Refusal) → HasTimetableValues asked
-    → IsReadingCause limit held asked.dir before after r → IsTimetableCause limit held asked before after r
-timetable-cause limit held asked before after (NotThere path) v h = (v, h.0, h.1)
-timetable-cause limit held asked before after (Unreadable path) v h = (v, h.0, h.1)
-timetable-cause limit held asked before after (OverLimit path) v h = (v, h.0, h.1)
-timetable-cause limit held asked before after (HasErrors path) v h = (v, h.0, h.1)
-timetable-cause limit held asked before after OutOfMemory v h = h
-timetable-cause limit held asked before after _ v h = absurd h
+pub timetable-cause : (limit : ℕ) (held : Option Store) (asked : TimetableTexts) (before after : Failures) → after.output ≡ before.output → (r : Refusal)
+    → HasTimetableValues asked → IsReadingCause limit held asked.dir before.folders after.folders r → IsTimetableCause limit held asked before after r
+timetable-cause limit held asked before after quiet (NotThere path) v h = (v, h.0, h.1)
+timetable-cause limit held asked before after quiet (Unreadable path) v h = (v, h.0, h.1)
+timetable-cause limit held asked before after quiet (OverLimit path) v h = (v, h.0, h.1)
+timetable-cause limit held asked before after quiet (HasErrors path) v h = (v, h.0, h.1)
+timetable-cause limit held asked before after quiet OutOfMemory v h = (h, quiet)
+timetable-cause limit held asked before after quiet _ v h = absurd h
 
 -- ---- what statuses tell
 
@@ -196,8 +185,3 @@ pub statuses-ended : (ended : Result Bool Refusal) (status : ℕ) → status ≡
 statuses-ended (Ok true) status gives = omega (arith, gives)
 statuses-ended (Ok false) status gives = omega (arith, gives)
 statuses-ended (Err r) status gives = statuses-from r status gives
-
--- a `?` passes its error on
-pub told-up : {A : Type 0} (r : Result A Refusal) (e : Refusal) (P : Refusal → Type 0) → IsErrAnd r (λ y. y ≡ e) → P e → IfErr r P
-told-up (Ok x) e P is h = absurd is
-told-up (Err y) e P is h = subst P (sym is) h

@@ -3,6 +3,8 @@ mod Paths
 mod Endings
 mod FailuresTold
 mod CallsMade
+mod ReadsThen
+mod FoldersRead
 pub mod Counted
 pub mod Reported
 mod Parts

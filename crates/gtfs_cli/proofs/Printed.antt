@@ -3,23 +3,23 @@ use Rattle.std.proofs.Common.{◌≡◌, ℕ, refl, subst, inl, inr, true, false
 use Rattle.std.specs.Io.KnownBytes.{Keeps}
 use Rattle.gtfs_days.specs.declared.zone.Zone.{Zone}
 use Rattle.gtfs_devices.specs.Folder.{Store}
-use Rattle.gtfs_table.specs.Tables.{Dataset}
 use Rattle.gtfs_rows.specs.Content.{Content}
 use Rattle.gtfs_rows.specs.Views.{content_of_parts}
 use Rattle.gtfs_rows.specs.declared.parts.Parts.{Parts as Feed}
 use Rattle.gtfs_board.specs.Board.{is_stop}
 use Rattle.gtfs_board.specs.Page.{IsCutShort, IsStopped}
-use Rattle.gtfs_cli.specs.Boards.{request_of, AreValues, EndsBoard, EndsLines, GoesOut, HoldsFeed, IsFeedCause, IsLinesCause, IsOpeningCause, Lists, OfBoard}
+use Rattle.gtfs_cli.specs.Boards.{request_of, AreValues, EndsBoard, EndsLines, GoesOut, HoldsFeed, IsLinesCause, IsOpeningCause, Lists, OfBoard}
 use Rattle.gtfs_commands.specs.Words.{BoardTexts}
-use Rattle.gtfs_cli.specs.Refusals.{IsCause, IsFirstBad, IsReadingCause}
+use Rattle.gtfs_cli.specs.Refusals.{IsCause, IsFirstBad}
 use Rattle.gtfs_cli.specs.OptionValues.{HasValues, Request}
-use Rattle.gtfs_cli.specs.HeldFiles.{HoldsPassing, HoldsTables, HoldsZone}
+use Rattle.gtfs_cli.specs.HeldFiles.{HoldsZone}
 use Rattle.gtfs_cli.specs.BoardSetting.{Setting}
-use Rattle.gtfs_cli.specs.Failures.{FailedNowhere, Failures}
+use Rattle.gtfs_cli.specs.Failures.{Failures}
 use Rattle.gtfs_cli.specs.declared.commands.refusal.Refusal.{Refusal}
-use Rattle.gtfs_cli.specs.declared.commands.refusal.Refusal.TheVariants.{BadValue, HasErrors, UnknownStop, UntilBeforeFrom, OutputFailed, OutOfMemory}
+use Rattle.gtfs_cli.specs.declared.commands.refusal.Refusal.TheVariants.{BadValue, UnknownStop, UntilBeforeFrom, OutputFailed, OutOfMemory}
 use Rattle.gtfs_cli.specs.declared.commands.values.Values.{Values}
 use Rattle.gtfs_cli.proofs.Endings.{counts}
+pub use Rattle.gtfs_cli.proofs.FoldersRead.{has-passing}
 
 -- nothing went out
 pub kept : (a : Option (List ℕ)) → Keeps a a
@@ -49,9 +49,6 @@ none-out limit held asked x y _ old new h keeps = keeps
 
 pub has-values : (asked : BoardTexts) (v : Values) → AreValues asked v → HasValues asked
 has-values asked v are = (request_of v, are.request)
-
-pub has-passing : (limit : ℕ) (held : Option Store) (dir : List ℕ) (feed : Feed) → HoldsFeed limit held dir feed → HoldsPassing limit held dir
-has-passing limit held dir feed h = (h.dataset, h.holds, h.is_feed.0)
 
 -- what is so of folders is so of the same folders later
 pub moved : (P : ℕ → Option Store → Type 0) (l m : ℕ) (h k : Option Store) → l ≡ m → h ≡ k → P l h → P m k
@@ -103,14 +100,6 @@ pub opening-cause : (f : Content) (z : Zone) (stop : List ℕ) (r : Request) (co
 opening-cause f z stop r count OutputFailed e = absurd e
 opening-cause f z stop r count OutOfMemory e = refl
 opening-cause f z stop r count _ e = e
-
--- ---- where there is no feed
-
-pub feed-cause : (limit : ℕ) (held : Option Store) (dir : List ℕ) (before after : Failures) → FailedNowhere before after → (d : Dataset) (r : Refusal) → HoldsTables limit held dir d
-    → IsFeedCause d dir r → IsReadingCause limit held dir before after r
-feed-cause limit held dir before after nowhere d (HasErrors path) holds e = (e.0, (d, holds, e.1))
-feed-cause limit held dir before after nowhere d OutOfMemory holds e = nowhere
-feed-cause limit held dir before after nowhere d _ holds e = absurd e
 
 pub first-bad-ends : (limit : ℕ) (held : Option Store) (asked : BoardTexts) (r : Refusal) (old new : Option (List ℕ)) → IsFirstBad asked r → Keeps old new → EndsBoard limit held asked old new r
 first-bad-ends limit held asked r old new h keeps = none-out limit held asked 0 0 r old new (λ output. first-bad-cause limit held asked (counts 0 output) (counts 0 output) r h) keeps

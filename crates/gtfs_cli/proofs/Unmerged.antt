@@ -20,22 +20,17 @@ use Rattle.gtfs_cli.specs.MergeParts.{HoldsMerge, IsFirstBadMerge}
 use Rattle.gtfs_cli.specs.Merges.{file_limit, merge_of, report_for, CanMerge, EndsMerge, HoldsFiles, IsFolderMerge, IsMergeCause, IsMergeFault, IsMergingCause, IsUntouched, IsWritingEnd, IsWritten, MergeSetting, ReadsAgain, StopsAtOne}
 use Rattle.gtfs_cli.specs.NamesReport.{names_report}
 use Rattle.gtfs_cli.specs.Refusals.{IsReadingCause}
-use Rattle.gtfs_cli.specs.Failures.{FailedNowhere, Failures}
+use Rattle.gtfs_cli.specs.Failures.{Failures}
 use Rattle.gtfs_cli.specs.Sending.{IsSendingCause, SendsBeginning}
 use Rattle.gtfs_cli.specs.declared.commands.refusal.Refusal.{Refusal}
 use Rattle.gtfs_cli.specs.declared.commands.refusal.Refusal.TheVariants.{BadValue, NotThere, Unreadable, OverLimit, HasErrors, ZonesDiffer, MergeTooLarge, Unwritable, OutputFailed, OutOfMemory}
-use Rattle.gtfs_cli.proofs.Endings.{counts}
+use Rattle.gtfs_cli.proofs.FoldersRead.{has-passing}
 use Rattle.gtfs_cli.proofs.NamesTold.{report-told}
-use Rattle.gtfs_cli.proofs.Printed.{has-passing}
 
 -- what went out, and why no more did
 pub both-err : {A : Type 0} (r : Result A Refusal) (P : Type 0) (Q R : Refusal → Type 0) → (P → (e : Refusal) → Q e → R e) → OnErr r P → IfErr r Q → IfErr r R
 both-err (Ok x) P Q R f p q = tt
 both-err (Err e) P Q R f p q = f p e q
-
--- the refusal keeps two folders from being merged, whatever the output did
-abbrev pub MergingAside : ℕ → Option Store → MergeTexts → ℕ → ℕ → Refusal → Type 0
-MergingAside limit held asked x y r = (output : ℕ) → IsMergingCause limit held asked (counts x output) (counts y output) r
 
 module _ (limit : ℕ) (held : Option Store) (asked : MergeTexts) where
   -- ---- the values of the options
@@ -50,7 +45,7 @@ module _ (limit : ℕ) (held : Option Store) (asked : MergeTexts) where
 
   -- ---- the folders that are read
 
-  pub first-unread : (before after : Failures) (r : Refusal) → IsReadingCause limit held asked.a before after r → IsMergingCause limit held asked before after r
+  pub first-unread : (before after : ℕ) (r : Refusal) → IsReadingCause limit held asked.a before after r → IsMergingCause limit held asked before after r
   first-unread before after (NotThere path) h = inl h
   first-unread before after (Unreadable path) h = inl h
   first-unread before after (OverLimit path) h = inl h
@@ -58,7 +53,7 @@ module _ (limit : ℕ) (held : Option Store) (asked : MergeTexts) where
   first-unread before after OutOfMemory h = h
   first-unread before after _ h = absurd h
 
-  pub second-unread : (before after : Failures) (feed : Feed) → HoldsFeed limit held asked.a feed → (r : Refusal) → IsReadingCause limit held asked.b before after r
+  pub second-unread : (before after : ℕ) (feed : Feed) → HoldsFeed limit held asked.a feed → (r : Refusal) → IsReadingCause limit held asked.b before after r
       → IsMergingCause limit held asked before after r
   second-unread before after feed holds (NotThere path) h = inr (h.0, has-passing limit held asked.a feed holds, h.1)
   second-unread before after feed holds (Unreadable path) h = inr (h.0, has-passing limit held asked.a feed holds, h.1)
@@ -86,15 +81,15 @@ module _ (limit : ℕ) (held : Option Store) (asked : MergeTexts) where
     of_datasets : (P : Content → Content → Type 0) → P (content_of_parts a) (content_of_parts b) → P (content_of first.dataset) (content_of second.dataset)
     of_datasets P h = subst (λ (f : Content). P f (content_of second.dataset)) first.is_feed.1 (subst (λ (f : Content). P (content_of_parts a) f) second.is_feed.1 h)
 
-    pub unmerged : (before after : Failures) → FailedNowhere before after → (r : Refusal) → IsMergeFault q (content_of_parts a) (content_of_parts b) r → IsMergingCause limit held asked before after r
-    unmerged before after nowhere ZonesDiffer h = (setting, of_datasets (λ f g. zone_texts_differ f g ≡ true) h)
-    unmerged before after nowhere MergeTooLarge h = (
+    pub unmerged : (before after : ℕ) → after ≡ before → (r : Refusal) → IsMergeFault q (content_of_parts a) (content_of_parts b) r → IsMergingCause limit held asked before after r
+    unmerged before after same ZonesDiffer h = (setting, of_datasets (λ f g. zone_texts_differ f g ≡ true) h)
+    unmerged before after same MergeTooLarge h = (
       setting,
       of_datasets (λ f g. zone_texts_differ f g ≡ false) h.0,
       of_datasets (λ f g. is_too_large file_limit (merge_of q f g) ≡ true) h.1,
     )
-    unmerged before after nowhere OutOfMemory h = nowhere
-    unmerged before after nowhere _ h = absurd h
+    unmerged before after same OutOfMemory h = same
+    unmerged before after same _ h = absurd h
 
     pub is-merged : (m : Merged) → IsMergeOf q.near q.cutoff (content_of_parts a) (content_of_parts b) file_limit m
         → KeepsDepartures q.near q.cutoff (content_of_parts a) (content_of_parts b) → HoldsMerge limit held asked q.near m
@@ -110,18 +105,18 @@ module _ (limit : ℕ) (held : Option Store) (asked : MergeTexts) where
 
   -- ---- why there is no merge
 
-  pub merging-cause : HasMergeValues asked → (before after : Failures) (r : Refusal) → IsMergingCause limit held asked before after r
+  pub merging-cause : HasMergeValues asked → (before after : Failures) → after.output ≡ before.output → (r : Refusal) → IsMergingCause limit held asked before.folders after.folders r
       → IsMergeCause limit held asked before after r
-  merging-cause values before after (NotThere path) h = (values, h)
-  merging-cause values before after (Unreadable path) h = (values, h)
-  merging-cause values before after (OverLimit path) h = (values, h)
-  merging-cause values before after (HasErrors path) h = (values, h)
-  merging-cause values before after ZonesDiffer h = (values, h)
-  merging-cause values before after MergeTooLarge h = (values, h)
-  merging-cause values before after OutOfMemory h = h
-  merging-cause values before after _ h = absurd h
+  merging-cause values before after quiet (NotThere path) h = (values, h)
+  merging-cause values before after quiet (Unreadable path) h = (values, h)
+  merging-cause values before after quiet (OverLimit path) h = (values, h)
+  merging-cause values before after quiet (HasErrors path) h = (values, h)
+  merging-cause values before after quiet ZonesDiffer h = (values, h)
+  merging-cause values before after quiet MergeTooLarge h = (values, h)
+  merging-cause values before after quiet OutOfMemory h = (h, quiet)
+  merging-cause values before after quiet _ h = absurd h
 
-  pub merging-ends : (before after : Failures) (now : Option Store) (old new : Option (List ℕ)) → IsUntouched held now old new → (r : Refusal)
+  pub merging-ends : (before after : ℕ) (now : Option Store) (old new : Option (List ℕ)) → IsUntouched held now old new → (r : Refusal)
       → IsMergingCause limit held asked before after r → EndsMerge limit held asked now old new r
   merging-ends before after now old new same (Unwritable path) h = absurd h
   merging-ends before after now old new same OutputFailed h = absurd h

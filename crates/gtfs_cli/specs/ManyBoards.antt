@@ -126,7 +126,7 @@ IsLineCause limit held asked _ = ⊥
 -- before was found good. The folder is judged first, then the zone file, the file of requests, its lines, and at last the output
 abbrev pub IsBoardsCause : ℕ → Option Store → BoardsTexts → Failures → Failures → Refusal → Type 0
 IsBoardsCause limit held asked before after refusal =
-    IsReadingCause limit held asked.dir before after refusal
+    IsReadingCause limit held asked.dir before.folders after.folders refusal
     ⊎ ((HoldsPassing limit held asked.dir × IsZoneCause limit held asked.zone before.folders after.folders refusal)
     ⊎ ((HoldsPassing limit held asked.dir × HoldsSomeZone limit held asked.zone
     × IsRequestsCause limit held asked.requests before.folders after.folders refusal)

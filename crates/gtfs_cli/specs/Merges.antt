@@ -119,15 +119,16 @@ ReadsAgain (Some store) new dir c = (d : Dataset) → HoldsDataset new dir d →
 abbrev pub OfEither : ℕ → Option Store → MergeTexts → List ℕ → (List ℕ → Type 0) → Type 0
 OfEither limit held asked path Fact = ((path ≡ asked.a) × Fact asked.a) ⊎ ((path ≡ asked.b) × HoldsPassing limit held asked.a × Fact asked.b)
 
--- why two folders are not merged: that all that is judged before was found good
-abbrev pub IsMergingCause : ℕ → Option Store → MergeTexts → Failures → Failures → Refusal → Type 0
+-- why two folders are not merged: that all that is judged before was found good; the counts are those of the folders' failures, before and
+-- after
+abbrev pub IsMergingCause : ℕ → Option Store → MergeTexts → ℕ → ℕ → Refusal → Type 0
 IsMergingCause limit held asked before after (NotThere path) = OfEither limit held asked path.now (LacksFeed held)
-IsMergingCause limit held asked before after (Unreadable path) = OfEither limit held asked path.now (λ dir. Rises before.folders after.folders)
+IsMergingCause limit held asked before after (Unreadable path) = OfEither limit held asked path.now (λ dir. Rises before after)
 IsMergingCause limit held asked before after (OverLimit path) = OfEither limit held asked path.now (HoldsKeptFile limit held)
 IsMergingCause limit held asked before after (HasErrors path) = OfEither limit held asked path.now (HoldsErrors limit held)
 IsMergingCause limit held asked before after ZonesDiffer = HasTwoZones limit held asked
 IsMergingCause limit held asked before after MergeTooLarge = HasLargeMerge limit held asked
-IsMergingCause limit held asked before after OutOfMemory = FailedNowhere before after
+IsMergingCause limit held asked before after OutOfMemory = after ≡ before
 IsMergingCause limit held asked before after _ = ⊥
 
 -- when a refusal comes where the words ask for a merge; the values of the options are judged before the folders
@@ -137,7 +138,7 @@ IsMergeCause limit held asked before after (Unwritable path) =
     (path.now ≡ asked.out) × CanMerge limit held asked × ((asked.out ≡ []) ⊎ Rises before.folders after.folders)
 IsMergeCause limit held asked before after OutputFailed = CanMerge limit held asked × Rises before.output after.output
 IsMergeCause limit held asked before after OutOfMemory = FailedNowhere before after
-IsMergeCause limit held asked before after refusal = HasMergeValues asked × IsMergingCause limit held asked before after refusal
+IsMergeCause limit held asked before after refusal = HasMergeValues asked × IsMergingCause limit held asked before.folders after.folders refusal
 
 -- ---- what the folders hold then, and what went out
 

@@ -95,14 +95,19 @@ IsCheckCause limit held dir before after OutputFailed = Rises before.output afte
 IsCheckCause limit held dir before after OutOfMemory = FailedNowhere before after
 IsCheckCause limit held dir before after _ = ⊥
 
--- when a refusal comes where the feed of a folder is to be read, and that it names that folder
-abbrev pub IsReadingCause : ℕ → Option Store → List ℕ → Failures → Failures → Refusal → Type 0
-IsReadingCause limit held dir before after (NotThere path) = (path.now ≡ dir) × LacksFeed held dir
-IsReadingCause limit held dir before after (Unreadable path) = (path.now ≡ dir) × Rises before.folders after.folders
-IsReadingCause limit held dir before after (OverLimit path) = (path.now ≡ dir) × HoldsKeptFile limit held dir
+-- when a refusal comes where the tables of a folder are to be read, and that it names that folder; the counts are those of the folders'
+-- failures, before and after
+abbrev pub IsTablesCause : ℕ → Option Store → List ℕ → ℕ → ℕ → Refusal → Type 0
+IsTablesCause limit held dir before after (NotThere path) = (path.now ≡ dir) × LacksFeed held dir
+IsTablesCause limit held dir before after (Unreadable path) = (path.now ≡ dir) × Rises before after
+IsTablesCause limit held dir before after (OverLimit path) = (path.now ≡ dir) × HoldsKeptFile limit held dir
+IsTablesCause limit held dir before after OutOfMemory = after ≡ before
+IsTablesCause limit held dir before after _ = ⊥
+
+-- and where its feed is
+abbrev pub IsReadingCause : ℕ → Option Store → List ℕ → ℕ → ℕ → Refusal → Type 0
 IsReadingCause limit held dir before after (HasErrors path) = (path.now ≡ dir) × HoldsErrors limit held dir
-IsReadingCause limit held dir before after OutOfMemory = FailedNowhere before after
-IsReadingCause limit held dir before after _ = ⊥
+IsReadingCause limit held dir before after refusal = IsTablesCause limit held dir before after refusal
 
 -- when a refusal comes for words alone, which ask for help or the version, or are no usage; the counts are those of the output's failures,
 -- before and after
