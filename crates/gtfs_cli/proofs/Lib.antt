@@ -1,14 +1,14 @@
 mod Moments
 mod Paths
-mod Endings
 mod FailuresTold
 mod CallsMade
+mod ReadsThen
+mod FoldersRead
 pub mod Counted
 pub mod Reported
 mod Parts
 mod Begun
 mod ControlSplit
-pub mod Printed
 mod Opening
 mod Ended
 mod Tabled
@@ -31,7 +31,6 @@ mod RequestFields
 mod RequestFaults
 mod RequestLines
 mod RequestBoards
-mod FilesRead
 mod ManyBoards
 mod OneBoards
 mod Plans

@@ -49,7 +49,7 @@ asks-none n a (Err y) e is = record {
 -- a fault ended the calls; that of a device is the end of the last one
 pub asks-fault : {T : Type 0} (n : ℕ) (a b : Device) (fault : FolderFault) (e : Refusal) → a.failures ≤ b.failures → CountsFault fault a.failures b.failures
     → TellsFolders a.failures b.failures e → MakesAtMost n a.calls b.calls → (fault ≡ faults.Read → FailsAtLast b.calls) → (fault ≡ faults.Write → FailsAtLast b.calls)
-    → Asks n {T} a b (Err e)
+    → Asks n {T = T} a b (Err e)
 asks-fault n a b fault e grows count told few read write = record {
   grows = grows;
   no_failure = tt;
@@ -75,8 +75,11 @@ asks-then m n a b c x r h k = record {
   last = λ differ. k.last (λ same. differ (same ∙ h.no_failure));
 }
 
--- an error that is passed on, from one part of so many calls
-pub asks-up : {T U : Type 0} (m n : ℕ) (a b : Device) (r : Result U Refusal) (e : Refusal) → m ≤ n → IsErrAnd r (λ y. y ≡ e) → Asks m {T} a b (Err e) → Asks n a b r
+pub asks-as : {T : Type 0} (m n : ℕ) (a b : Device) (r : Result T Refusal) → m ≡ n → Asks m a b r → Asks n a b r
+asks-as m n a b r same h = subst (λ (k : ℕ). Asks k a b r) same h
+
+-- an error that is passed on, of a part that makes no more calls
+pub asks-up : {T U : Type 0} (m n : ℕ) (a b : Device) (r : Result U Refusal) (e : Refusal) → m ≤ n → IsErrAnd r (λ y. y ≡ e) → Asks m {T = T} a b (Err e) → Asks n a b r
 asks-up m n a b (Ok x) e few is h = absurd is
 asks-up m n a b (Err y) e few is h = record {
   grows = h.grows;
@@ -102,7 +105,7 @@ reads-then m n a b c x r h k = record {
   asks = asks-then m n a b c x r h.asks k.asks;
 }
 
-pub reads-up : {T U : Type 0} (m n : ℕ) (a b : Device) (r : Result U Refusal) (e : Refusal) → m ≤ n → IsErrAnd r (λ y. y ≡ e) → Reads m {T} a b (Err e) → Reads n a b r
+pub reads-up : {T U : Type 0} (m n : ℕ) (a b : Device) (r : Result U Refusal) (e : Refusal) → m ≤ n → IsErrAnd r (λ y. y ≡ e) → Reads m {T = T} a b (Err e) → Reads n a b r
 reads-up m n a b r e few is h = record { unchanged = h.unchanged; same_limit = h.same_limit; asks = asks-up m n a b r e few is h.asks }
 
 -- what is so of the folders after they were read is so of them before

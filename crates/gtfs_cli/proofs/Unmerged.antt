@@ -20,6 +20,7 @@ use Rattle.gtfs_cli.specs.Merges.{file_limit, merge_judges, merge_of, merge_plan
 use Rattle.gtfs_cli.specs.NamesReport.{names_report}
 use Rattle.gtfs_cli.specs.Plan.{answer_of, failures_of, Ends, IsRefusedIn}
 use Rattle.gtfs_cli.specs.Reads.{Asks}
+use Rattle.gtfs_cli.specs.Refusals.{IsReadingCause}
 use Rattle.gtfs_cli.specs.Seen.{Device, Devices, Output}
 use Rattle.gtfs_cli.specs.Sending.{Begins, IsSendingCause, IsSent}
 use Rattle.gtfs_cli.specs.declared.commands.refusal.Refusal.{Refusal}
@@ -68,6 +69,12 @@ module _ (limit : ℕ) (held : Option Store) (asked : MergeTexts) where
     )
     unmerged OutOfMemory h = inr refl
     unmerged _ h = absurd h
+
+    pub unmerged-by : (before after : ℕ) → after ≡ before → (r : Refusal) → IsMergeFault q (content_of_parts a) (content_of_parts b) r → IsFoldersCause limit held asked before after r
+    unmerged-by before after same r h = elim (unmerged r h) [
+      | inl cause ↦ inr ((first.dataset, first.holds, first.is_feed.0), inr ((second.dataset, second.holds, second.is_feed.0), cause))
+      | inr memory ↦ inl (subst (λ (e : Refusal). IsReadingCause limit held asked.a before after e) (sym memory) same)
+    ]
 
     pub is-merged : (m : Merged) → IsMergeOf q.near q.cutoff (content_of_parts a) (content_of_parts b) file_limit m
         → KeepsDepartures q.near q.cutoff (content_of_parts a) (content_of_parts b) → HoldsMerge limit held asked q.near m

@@ -1,20 +1,19 @@
-ghost use Rattle.std.specs.Prelude.{◌≡◌, ◌≢◌, ◌≤◌, ℕ, IfOk, IfErr, OnOk};
-ghost use Rattle.gtfs_devices.specs.Device.{FailsAtLast, MakesCalls};
+ghost use Rattle.std.specs.Prelude.{IfOk, IfErr};
 ghost use Rattle.gtfs_cli.specs.Boards.{HoldsFeed, IsFeedCause, IsFeedOf};
-ghost use Rattle.gtfs_cli.specs.Calls.{MakesAtMost};
-ghost use Rattle.gtfs_cli.specs.Refusals.{IsReadingCause, TellsFolders};
+ghost use Rattle.gtfs_cli.specs.Reads.{Reads};
+ghost use Rattle.gtfs_cli.specs.Refusals.{IsReadingCause};
 
 use crate::commands::folder::read_tables;
 use crate::commands::refusal::Refusal;
+use crate::seen::FoldersSeen;
 use gtfs_board::Feed;
 use gtfs_feed::FeedDraft;
 use gtfs_rules::check;
 use gtfs_table::{Folders, Tables};
 use std::alloc::Global;
 use std::hash::RandomState;
-use std::mem;
 
-// The feed of a folder, whose tables are let go again.
+// The feed of a folder, whose tables are let go before the stop times of the feed are moved.
 // Errors: `NotThere`, `Unreadable`, `OverLimit`, `HasErrors` and `OutOfMemory`.
 pub(super) fn read_feed<'w, F: Folders>(
     alloc: Global,
@@ -23,86 +22,36 @@ pub(super) fn read_feed<'w, F: Folders>(
     dir: &'w str,
 ) -> Result<Feed, Refusal<'w>>
     ensures read { IfOk result (HoldsFeed (F.limit folders.old) (F.held folders.old) dir.now) }
-    ensures refused { IfErr result (λ refusal. (output : ℕ)
-        → IsReadingCause (F.limit folders.old) (F.held folders.old) dir.now
-        (record { folders = F.failure_count folders.old; output = output })
-        (record { folders = F.failure_count folders.new; output = output }) refusal) }
-    ensures unchanged { F.held folders.new ≡ F.held folders.old }
-    ensures same_limit { F.limit folders.new ≡ F.limit folders.old }
-    ensures grows { F.failure_count folders.old ≤ F.failure_count folders.new }
-    ensures no_failure { OnOk result
-        (F.failure_count folders.new ≡ F.failure_count folders.old) }
-    ensures told { IfErr result
-        (TellsFolders (F.failure_count folders.old) (F.failure_count folders.new)) }
-    ensures called { OnOk result (MakesCalls 10 (F.calls folders.old) (F.calls folders.new)) }
-    ensures few { MakesAtMost 10 (F.calls folders.old) (F.calls folders.new) }
-    ensures last { F.failure_count folders.new ≢ F.failure_count folders.old
-        → FailsAtLast (F.calls folders.new) }
+    ensures refused { IfErr result (IsReadingCause (F.limit folders.old) (F.held folders.old) dir.now
+        (F.failure_count folders.old) (F.failure_count folders.new)) }
+    ensures reads { Reads 10 (⟦<F as FoldersSeen>⟧.seen folders.old)
+        (⟦<F as FoldersSeen>⟧.seen folders.new) result }
 {
-    let tables = read_tables(alloc, folders, dir, Vec::new(alloc))?;
-    feed_of(alloc, random, tables, dir)
+    let (draft, memory) = read_draft(alloc, random, folders, dir, Vec::new(alloc))?;
+    drop(memory);
+    Ok(draft.into_feed(alloc, random)?)
 }
 
-// The same, with the fields of stop_times.txt in the memory of these bytes, which is given back with
-// nothing in it.
-pub(super) fn read_feed_in<'w, F: Folders>(
+// A draft of the feed of a folder. The fields of stop_times.txt lie in the memory of these bytes
+// meanwhile, which is given back with nothing in it.
+// Errors: Those of `read_feed`.
+pub(super) fn read_draft<'w, F: Folders>(
     alloc: Global,
     random: RandomState,
     folders: &mut F,
     dir: &'w str,
-    memory: &mut Vec<u8>,
-) -> Result<Feed, Refusal<'w>>
-    ensures read { IfOk result (HoldsFeed (F.limit folders.old) (F.held folders.old) dir.now) }
-    ensures refused { IfErr result (λ refusal. (output : ℕ)
-        → IsReadingCause (F.limit folders.old) (F.held folders.old) dir.now
-        (record { folders = F.failure_count folders.old; output = output })
-        (record { folders = F.failure_count folders.new; output = output }) refusal) }
-    ensures unchanged { F.held folders.new ≡ F.held folders.old }
-    ensures same_limit { F.limit folders.new ≡ F.limit folders.old }
-    ensures grows { F.failure_count folders.old ≤ F.failure_count folders.new }
-    ensures no_failure { OnOk result
-        (F.failure_count folders.new ≡ F.failure_count folders.old) }
-    ensures told { IfErr result
-        (TellsFolders (F.failure_count folders.old) (F.failure_count folders.new)) }
-    ensures called { OnOk result (MakesCalls 10 (F.calls folders.old) (F.calls folders.new)) }
-    ensures few { MakesAtMost 10 (F.calls folders.old) (F.calls folders.new) }
-    ensures last { F.failure_count folders.new ≢ F.failure_count folders.old
-        → FailsAtLast (F.calls folders.new) }
+    memory: Vec<u8>,
+) -> Result<(FeedDraft, Vec<u8>), Refusal<'w>>
+    ensures read { IfOk result (λ given. HoldsFeed (F.limit folders.old) (F.held folders.old)
+        dir.now given.0) }
+    ensures refused { IfErr result (IsReadingCause (F.limit folders.old) (F.held folders.old) dir.now
+        (F.failure_count folders.old) (F.failure_count folders.new)) }
+    ensures reads { Reads 10 (⟦<F as FoldersSeen>⟧.seen folders.old)
+        (⟦<F as FoldersSeen>⟧.seen folders.new) result }
 {
-    let bytes = mem::replace(memory, Vec::new(alloc));
-    let tables = read_tables(alloc, folders, dir, bytes)?;
-    feed_in(alloc, random, tables, dir, memory)
-}
-
-// The feed of the tables of a folder. They are let go before its stop times are copied.
-fn feed_of<'w>(
-    alloc: Global,
-    random: RandomState,
-    tables: Tables,
-    dir: &'w str,
-) -> Result<Feed, Refusal<'w>>
-    ensures read { IfOk result (IsFeedOf tables) }
-    ensures refused { IfErr result (IsFeedCause tables dir.now) }
-{
+    let tables = read_tables(alloc, folders, dir, memory)?;
     let draft = draft_of(alloc, random, &tables, dir)?;
-    drop(tables);
-    Ok(draft.into_feed(alloc, random)?)
-}
-
-// The feed of the tables of a folder, whose memory is given back.
-fn feed_in<'w>(
-    alloc: Global,
-    random: RandomState,
-    tables: Tables,
-    dir: &'w str,
-    memory: &mut Vec<u8>,
-) -> Result<Feed, Refusal<'w>>
-    ensures read { IfOk result (IsFeedOf tables) }
-    ensures refused { IfErr result (IsFeedCause tables dir.now) }
-{
-    let draft = draft_of(alloc, random, &tables, dir)?;
-    *memory = tables.into_memory();
-    Ok(draft.into_feed(alloc, random)?)
+    Ok((draft, tables.into_memory()))
 }
 
 // All that is read of the feed of these tables.

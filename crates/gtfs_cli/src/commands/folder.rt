@@ -1,14 +1,13 @@
-ghost use Rattle.std.specs.Prelude.{◌≡◌, ◌≢◌, ◌<◌, ◌≤◌, ℕ, length, Option, IfOk, IfErr, OnOk};
-ghost use Rattle.gtfs_devices.specs.Device.{FailsAtLast, MakesCalls};
+ghost use Rattle.std.specs.Prelude.{◌<◌, ℕ, length, Option, IfOk, IfErr};
 ghost use Rattle.gtfs_devices.specs.Folder.{CountsFault, Store};
-ghost use Rattle.gtfs_table.specs.Reading.{HoldsDataset, RefusesDataset};
-ghost use Rattle.gtfs_cli.specs.Calls.{MakesAtMost};
+ghost use Rattle.gtfs_table.specs.Reading.{RefusesDataset};
 ghost use Rattle.gtfs_cli.specs.FileRead.{IsFileCause, IsPathCause};
 ghost use Rattle.gtfs_cli.specs.HeldFiles.{HoldsTables};
-ghost use Rattle.gtfs_cli.specs.Failures.{Failures};
-ghost use Rattle.gtfs_cli.specs.Refusals.{IsCheckCause, TellsFolders};
+ghost use Rattle.gtfs_cli.specs.Reads.{Reads};
+ghost use Rattle.gtfs_cli.specs.Refusals.{IsTablesCause, TellsFolders};
 
 use crate::commands::refusal::Refusal;
+use crate::seen::FoldersSeen;
 use gtfs_table::{FolderFault, Folders, Tables};
 use std::alloc::Global;
 
@@ -21,24 +20,11 @@ pub(super) fn read_tables<'w, F: Folders>(
     dir: &'w str,
     memory: Vec<u8>,
 ) -> Result<Tables, Refusal<'w>>
-    ensures read { IfOk result (λ tables. HoldsDataset (F.held folders.old) dir.now tables) }
-    ensures whole { IfOk result (λ tables. HoldsTables (F.limit folders.old)
-        (F.held folders.old) dir.now tables) }
-    ensures refused { IfErr result (λ refusal. (output : ℕ)
-        → IsCheckCause (F.limit folders.old) (F.held folders.old) dir.now
-        (record { folders = F.failure_count folders.old; output = output })
-        (record { folders = F.failure_count folders.new; output = output }) refusal) }
-    ensures unchanged { F.held folders.new ≡ F.held folders.old }
-    ensures same_limit { F.limit folders.new ≡ F.limit folders.old }
-    ensures grows { F.failure_count folders.old ≤ F.failure_count folders.new }
-    ensures no_failure { OnOk result
-        (F.failure_count folders.new ≡ F.failure_count folders.old) }
-    ensures told { IfErr result
-        (TellsFolders (F.failure_count folders.old) (F.failure_count folders.new)) }
-    ensures called { OnOk result (MakesCalls 10 (F.calls folders.old) (F.calls folders.new)) }
-    ensures few { MakesAtMost 10 (F.calls folders.old) (F.calls folders.new) }
-    ensures last { F.failure_count folders.new ≢ F.failure_count folders.old
-        → FailsAtLast (F.calls folders.new) }
+    ensures whole { IfOk result (HoldsTables (F.limit folders.old) (F.held folders.old) dir.now) }
+    ensures refused { IfErr result (IsTablesCause (F.limit folders.old) (F.held folders.old) dir.now
+        (F.failure_count folders.old) (F.failure_count folders.new)) }
+    ensures reads { Reads 10 (⟦<F as FoldersSeen>⟧.seen folders.old)
+        (⟦<F as FoldersSeen>⟧.seen folders.new) result }
 {
     if dir.is_empty() {
         return Err(Refusal::NotThere(dir));
@@ -54,11 +40,10 @@ pub(super) fn of_folder(fault: FolderFault, path: &str) -> Refusal<'_>
     ensures file { (limit : ℕ) (held : Option Store) (before after : ℕ)
         → IsFileCause limit held path.now before after fault
         → IsPathCause limit held path.now before after result }
-    ensures check { (limit : ℕ) (held : Option Store) (before after : Failures)
-        → 0 < length path.now
-        → RefusesDataset fault limit held path.now before.folders after.folders
-        → CountsFault fault before.folders after.folders → after.output ≡ before.output
-        → IsCheckCause limit held path.now before after result }
+    ensures tables { (limit : ℕ) (held : Option Store) (before after : ℕ)
+        → 0 < length path.now → RefusesDataset fault limit held path.now before after
+        → CountsFault fault before after
+        → IsTablesCause limit held path.now before after result }
     ensures told { (before after : ℕ) → CountsFault fault before after
         → TellsFolders before after result }
 {

@@ -1,28 +1,28 @@
-ghost use Rattle.std.specs.Prelude.{◌≡◌, ◌≢◌, ◌<◌, ◌≤◌, ℕ, length, Option, IfOk, IfErr, IfSome, OnOk, Some, string_bytes, true};
+ghost use Rattle.std.specs.Prelude.{◌≡◌, ◌<◌, ◌≤◌, ℕ, length, Option, IfOk, IfErr, IfSome, OnOk, Some, string_bytes, true};
 ghost use Rattle.gtfs_days.specs.Service.{is_service_day};
 ghost use Rattle.gtfs_rows.specs.Views.{content_of_parts};
 ghost use Rattle.gtfs_rows.specs.Written.{written};
 ghost use Rattle.gtfs_rows.specs.WrittenForm.{IsWrittenForm};
 ghost use Rattle.gtfs_merge.specs.Merging.{IsMergeOf, KeepsDepartures};
 ghost use Rattle.gtfs_table.specs.Files.{file_name};
-ghost use Rattle.gtfs_devices.specs.Device.{FailsAtLast, MakesCalls};
 ghost use Rattle.gtfs_devices.specs.Folder.{CountsFault, RefusesWrite, Store, Writes};
 ghost use Rattle.gtfs_table.specs.Reading.{kept_files};
 ghost use Rattle.gtfs_table.specs.Tables.{table_of, table_of_bytes};
 ghost use Rattle.gtfs_table.specs.Written.{text_of_table};
 ghost use Rattle.gtfs_table.specs.declared.file.File.{File as FileOf};
-ghost use Rattle.gtfs_cli.specs.Calls.{MakesAtMost};
 ghost use Rattle.gtfs_commands.specs.Words.{merge_texts_of};
-ghost use Rattle.gtfs_cli.specs.Merges.{file_limit, file_text, EndsMerge, HoldsFiles, IsFileEnd, IsMergeCause, IsMergeFault, IsMergingCause, IsWritingEnd, PrintsMerge};
+ghost use Rattle.gtfs_cli.specs.Merges.{file_limit, file_text, merge_plan, HoldsFiles, IsFileEnd, IsFoldersCause, IsMergeFault, IsWritingEnd};
 ghost use Rattle.gtfs_cli.specs.MergeOptions.{IsMergeRequest};
 ghost use Rattle.gtfs_cli.specs.MergeParts.{merge_request_of, AllReadAs, HoldsMerge, ReadsAs};
-ghost use Rattle.gtfs_cli.specs.Refusals.{TellsFailure, TellsFolders};
-ghost use Rattle.gtfs_cli.specs.Failures.{FailedNowhere};
+ghost use Rattle.gtfs_cli.specs.Plan.{answer_of, Ends};
+ghost use Rattle.gtfs_cli.specs.Reads.{Asks, Reads};
+ghost use Rattle.gtfs_cli.specs.Refusals.{TellsFolders};
 
-use crate::commands::feed::read_feed_in;
+use crate::commands::feed::read_draft;
 use crate::commands::merge_values::{MergeValues, read_merge_values};
 use crate::commands::names::print_names;
 use crate::commands::refusal::Refusal;
+use crate::seen::{DevicesSeen, FoldersSeen};
 use gtfs_board::Feed;
 use gtfs_commands::MergeWords;
 use gtfs_field::OutOfMemory;
@@ -58,7 +58,8 @@ pub(super) fn print_merge<'w, F: Folders, O: Out>(
     print_names(alloc, &merged.names, values.near, out)
 }
 
-// The merge of the feeds of two folders. Both are read in this memory, one after the other.
+// The merge of the feeds of two folders. Both are read in one piece of memory, one after the other,
+// which is left in `memory`.
 fn merge_folders<'w, F: Folders>(
     alloc: Global,
     random: RandomState,
@@ -70,23 +71,16 @@ fn merge_folders<'w, F: Folders>(
     requires { IsMergeRequest (merge_texts_of words.now) (merge_request_of values.now) }
     ensures merged { IfOk result (HoldsMerge (F.limit folders.old) (F.held folders.old)
         (merge_texts_of words.now) values.now.near) }
-    ensures refused { IfErr result (λ refusal. (output : ℕ)
-        → IsMergingCause (F.limit folders.old) (F.held folders.old) (merge_texts_of words.now)
-        (record { folders = F.failure_count folders.old; output = output })
-        (record { folders = F.failure_count folders.new; output = output }) refusal) }
-    ensures unchanged { F.held folders.new ≡ F.held folders.old }
-    ensures grows { F.failure_count folders.old ≤ F.failure_count folders.new }
-    ensures no_failure { OnOk result
-        (F.failure_count folders.new ≡ F.failure_count folders.old) }
-    ensures told { IfErr result
-        (TellsFolders (F.failure_count folders.old) (F.failure_count folders.new)) }
-    ensures called { OnOk result (MakesCalls 20 (F.calls folders.old) (F.calls folders.new)) }
-    ensures few { MakesAtMost 20 (F.calls folders.old) (F.calls folders.new) }
-    ensures last { F.failure_count folders.new ≢ F.failure_count folders.old
-        → FailsAtLast (F.calls folders.new) }
+    ensures refused { IfErr result (IsFoldersCause (F.limit folders.old) (F.held folders.old)
+        (merge_texts_of words.now) (F.failure_count folders.old) (F.failure_count folders.new)) }
+    ensures reads { Reads 20 (⟦<F as FoldersSeen>⟧.seen folders.old)
+        (⟦<F as FoldersSeen>⟧.seen folders.new) result }
 {
-    let a = read_feed_in(alloc, random, folders, words.a, memory)?;
-    let b = read_feed_in(alloc, random, folders, words.b, memory)?;
+    let (draft, bytes) = read_draft(alloc, random, folders, words.a, Vec::new(alloc))?;
+    let a = draft.into_feed(alloc, random)?;
+    let (draft, bytes) = read_draft(alloc, random, folders, words.b, bytes)?;
+    let b = draft.into_feed(alloc, random)?;
+    *memory = bytes;
     // With a cutoff a copy is made of each feed, which takes as much.
     if values.cutoff.is_some() {
         *memory = Vec::new(alloc);
@@ -141,15 +135,8 @@ fn write_feed<'w, F: Folders>(
     ensures refused { IfErr result (IsWritingEnd (F.held folders.old) (F.held folders.new)
         (F.failure_count folders.old) (F.failure_count folders.new)
         dir.now (content_of_parts feed.now)) }
-    ensures grows { F.failure_count folders.old ≤ F.failure_count folders.new }
-    ensures no_failure { OnOk result
-        (F.failure_count folders.new ≡ F.failure_count folders.old) }
-    ensures told { IfErr result
-        (TellsFolders (F.failure_count folders.old) (F.failure_count folders.new)) }
-    ensures called { OnOk result (MakesCalls 9 (F.calls folders.old) (F.calls folders.new)) }
-    ensures few { MakesAtMost 9 (F.calls folders.old) (F.calls folders.new) }
-    ensures last { F.failure_count folders.new ≢ F.failure_count folders.old
-        → FailsAtLast (F.calls folders.new) }
+    ensures asks { Asks 9 (⟦<F as FoldersSeen>⟧.seen folders.old)
+        (⟦<F as FoldersSeen>⟧.seen folders.new) result }
 {
     if dir.is_empty() {
         return Err(Refusal::Unwritable(dir));
@@ -174,15 +161,8 @@ fn write_file<'w, F: Folders>(
     ensures read { OnOk result (ReadsAs (content_of_parts feed.now) file) }
     ensures refused { IfErr result (IsFileEnd (F.held folders.old) (F.held folders.new)
         (F.failure_count folders.old) (F.failure_count folders.new) dir.now file) }
-    ensures grows { F.failure_count folders.old ≤ F.failure_count folders.new }
-    ensures no_failure { OnOk result
-        (F.failure_count folders.new ≡ F.failure_count folders.old) }
-    ensures told { IfErr result
-        (TellsFolders (F.failure_count folders.old) (F.failure_count folders.new)) }
-    ensures called { OnOk result (MakesCalls 1 (F.calls folders.old) (F.calls folders.new)) }
-    ensures few { MakesAtMost 1 (F.calls folders.old) (F.calls folders.new) }
-    ensures last { F.failure_count folders.new ≢ F.failure_count folders.old
-        → FailsAtLast (F.calls folders.new) }
+    ensures asks { Asks 1 (⟦<F as FoldersSeen>⟧.seen folders.old)
+        (⟦<F as FoldersSeen>⟧.seen folders.new) result }
 {
     let text = text_of_file(alloc, feed, file, memory)?;
     match folders.write(alloc, dir, file.name(), text.as_bytes()) {

@@ -1,14 +1,13 @@
-ghost use Rattle.std.specs.Prelude.{◌≡◌, ◌≢◌, ◌≤◌, ℕ, Option, IfOk, IfErr, OnOk};
+ghost use Rattle.std.specs.Prelude.{◌≡◌, ℕ, Option, IfOk, IfErr, OnOk};
 ghost use Rattle.gtfs_days.specs.Zone.{IsZoneOf};
 ghost use Rattle.gtfs_devices.specs.Folder.{Store};
-ghost use Rattle.gtfs_devices.specs.Device.{FailsAtLast, MakesCalls};
-ghost use Rattle.gtfs_cli.specs.Calls.{MakesAtMost};
 ghost use Rattle.gtfs_cli.specs.FileRead.{IsZoneCause};
-ghost use Rattle.gtfs_cli.specs.Refusals.{TellsFolders};
 ghost use Rattle.gtfs_cli.specs.HeldFiles.{FitsZone, HoldsBytes, HoldsZone};
+ghost use Rattle.gtfs_cli.specs.Reads.{Reads};
 
 use crate::commands::files::read_file;
 use crate::commands::refusal::Refusal;
+use crate::seen::FoldersSeen;
 use gtfs_days::{Zone, ZoneFault};
 use gtfs_table::Folders;
 use std::alloc::Global;
@@ -23,17 +22,8 @@ pub(super) fn read_zone<'w, F: Folders>(
     ensures read { IfOk result (HoldsZone (F.limit folders.old) (F.held folders.old) path.now) }
     ensures refused { IfErr result (IsZoneCause (F.limit folders.old) (F.held folders.old) path.now
         (F.failure_count folders.old) (F.failure_count folders.new)) }
-    ensures unchanged { F.held folders.new ≡ F.held folders.old }
-    ensures same_limit { F.limit folders.new ≡ F.limit folders.old }
-    ensures grows { F.failure_count folders.old ≤ F.failure_count folders.new }
-    ensures no_failure { OnOk result
-        (F.failure_count folders.new ≡ F.failure_count folders.old) }
-    ensures told { IfErr result
-        (TellsFolders (F.failure_count folders.old) (F.failure_count folders.new)) }
-    ensures called { OnOk result (MakesCalls 1 (F.calls folders.old) (F.calls folders.new)) }
-    ensures few { MakesAtMost 1 (F.calls folders.old) (F.calls folders.new) }
-    ensures last { F.failure_count folders.new ≢ F.failure_count folders.old
-        → FailsAtLast (F.calls folders.new) }
+    ensures reads { Reads 1 (⟦<F as FoldersSeen>⟧.seen folders.old)
+        (⟦<F as FoldersSeen>⟧.seen folders.new) result }
 {
     let bytes = read_file(alloc, folders, path)?;
     zone_of(alloc, bytes.as_slice(), path)

@@ -1,54 +1,32 @@
-use Rattle.std.proofs.Common.{refl}
-use Rattle.std.proofs.lemmas.Result.{IfErr-weaker, IfOk-weaker}
-use Rattle.gtfs_table.proofs.StoreFacts.{on_ok-always}
-use Rattle.gtfs_cli.specs.Refusals.{TellsFolders}
-use Rattle.gtfs_cli.proofs.Endings.{counts, reading-cause, told-up, ReadingAside}
-use Rattle.gtfs_cli.proofs.FailuresTold.{each-err, folders-kept}
-use Rattle.gtfs_cli.proofs.Printed.{feed-cause}
+use Rattle.std.proofs.Common.{arith, subst, sym}
+use Rattle.gtfs_rows.specs.declared.parts.Parts.{Parts as Feed}
+use Rattle.gtfs_cli.specs.Boards.{HoldsFeed}
+use Rattle.gtfs_cli.specs.Refusals.{IsReadingCause}
+use Rattle.gtfs_cli.specs.declared.commands.refusal.Refusal.TheVariants.{OutOfMemory}
+use Rattle.gtfs_cli.proofs.ReadsThen.{reads-done, reads-up, told-up}
 use Rattle.gtfs_cli.proofs.commands.feed.read_feed.Goals as goal
 
-pub returns-in_err-tables-clause-refused : goal.returns-in_err-tables-clause-refused
-returns-in_err-tables-clause-refused g c =
-    let limit = g.F.Folders.limit c.args.folders.now in
-    let held = g.F.Folders.held c.args.folders.now in
-    let dir = c.args.dir.now in
-    let x = g.F.Folders.failure_count c.args.folders.now in
-    let y = g.F.Folders.failure_count c.read_tables.new.folders in
-    let r = c.in_err-tables.field-0.0 in
-    told-up c.from_residual.result r (ReadingAside limit held dir x y) c.from_residual.ensures.1
-    (reading-cause limit held dir x y r c.in_err-tables.ensures.refused)
+pub returns-in_err-draft-clause-refused : goal.returns-in_err-draft-clause-refused
+returns-in_err-draft-clause-refused g c =
+    let F = g.F.Folders in
+    let old = c.args.folders.now in
+    told-up c.from_residual.result c.in_err-draft.field-0.0
+    (IsReadingCause (F.limit old) (F.held old) c.args.dir.now (F.failure_count old) (F.failure_count c.read_draft.new.folders)) c.from_residual.ensures.1
+    c.in_err-draft.ensures.refused
 
-pub returns-clause-refused : goal.returns-clause-refused
-returns-clause-refused g c =
-    let limit = g.F.Folders.limit c.args.folders.now in
-    let held = g.F.Folders.held c.args.folders.now in
-    let x = g.F.Folders.failure_count c.args.folders.now in
-    let y = g.F.Folders.failure_count c.read_tables.new.folders in
-    IfErr-weaker c.feed_of.result _ (ReadingAside limit held c.args.dir.now x y)
-    (λ r e output. feed-cause limit held c.args.dir.now (counts x output) (counts y output) (c.in_ok-tables.ensures.no_failure, refl) c.in_ok-tables.tables r
-    c.in_ok-tables.ensures.whole e)
-    c.feed_of.ensures.refused
+pub returns-in_err-draft-clause-reads : goal.returns-in_err-draft-clause-reads
+returns-in_err-draft-clause-reads g c = reads-up 10 10 _ _ c.from_residual.result c.in_err-draft.field-0.0 (omega arith) c.from_residual.ensures.1 c.in_err-draft.ensures.reads
 
-pub returns-clause-read : goal.returns-clause-read
-returns-clause-read g c =
-    IfOk-weaker c.feed_of.result _ _
-    (λ feed is. record { dataset = c.in_ok-tables.tables; holds = c.in_ok-tables.ensures.whole; is_feed = is })
-    c.feed_of.ensures.read
+pub returns-in_err-into_feed-clause-refused : goal.returns-in_err-into_feed-clause-refused
+returns-in_err-into_feed-clause-refused g c =
+    let F = g.F.Folders in
+    let old = c.args.folders.now in
+    told-up c.from_residual-in_err-into_feed.result OutOfMemory
+    (IsReadingCause (F.limit old) (F.held old) c.args.dir.now (F.failure_count old) (F.failure_count c.read_draft.new.folders)) c.from_residual-in_err-into_feed.ensures.1
+    c.in_ok-draft.ensures.reads.asks.no_failure
 
-pub returns-in_err-tables-clause-told : goal.returns-in_err-tables-clause-told
-returns-in_err-tables-clause-told g c =
-    let x = g.F.Folders.failure_count c.args.folders.now in
-    let y = g.F.Folders.failure_count c.read_tables.new.folders in
-    told-up c.from_residual.result c.in_err-tables.field-0.0 (TellsFolders x y) c.from_residual.ensures.1 c.in_err-tables.ensures.told
+pub returns-in_err-into_feed-clause-reads : goal.returns-in_err-into_feed-clause-reads
+returns-in_err-into_feed-clause-reads g c = reads-done 10 _ _ _ c.from_residual-in_err-into_feed.result c.in_ok-draft.ensures.reads
 
-pub returns-clause-no_failure : goal.returns-clause-no_failure
-returns-clause-no_failure g c = on_ok-always c.feed_of.result _ c.in_ok-tables.ensures.no_failure
-
-pub returns-clause-told : goal.returns-clause-told
-returns-clause-told g c =
-    let x = g.F.Folders.failure_count c.args.folders.now in
-    let y = g.F.Folders.failure_count c.read_tables.new.folders in
-    each-err c.feed_of.result (TellsFolders x y) (folders-kept x y c.in_ok-tables.ensures.no_failure)
-
-pub returns-clause-called : goal.returns-clause-called
-returns-clause-called g c = on_ok-always c.feed_of.result _ c.in_ok-tables.ensures.called
+pub returns-clause-reads : goal.returns-clause-reads
+returns-clause-reads g c = reads-done 10 _ _ _ _ c.in_ok-draft.ensures.reads
