@@ -7,7 +7,7 @@ mod FoldersRead
 pub mod Counted
 pub mod Reported
 mod Parts
-mod Begun
+mod Sent
 mod ControlSplit
 mod Opening
 mod Ended

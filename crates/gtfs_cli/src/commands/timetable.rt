@@ -1,14 +1,13 @@
-ghost use Rattle.std.specs.Prelude.{◌≡◌, ◌≢◌, ◌≤◌, ℕ, map, true, IfOk, IfErr, OnOk, OnErr};
+ghost use Rattle.std.specs.Prelude.{◌≡◌, map, true, IfErr, IfOk, OnOk};
 ghost use Rattle.std.specs.List.{flat_map};
-ghost use Rattle.std.specs.Io.KnownBytes.{Appends};
 ghost use Rattle.gtfs_rows.specs.Views.{content_of_parts};
 ghost use Rattle.gtfs_times.specs.Filling.{timed};
 ghost use Rattle.gtfs_board.specs.LentSheets.{plain_sheet};
 ghost use Rattle.gtfs_board.specs.Timetable.{is_route, sheet_text, sheets};
 ghost use Rattle.gtfs_commands.specs.Words.{timetable_texts_of};
 ghost use Rattle.gtfs_cli.specs.Plan.{answer_of, Ends};
+ghost use Rattle.gtfs_cli.specs.Sending.{or_none, Begins, IsSent, PrintsText};
 ghost use Rattle.gtfs_cli.specs.Timetables.{timetable_plan, timetable_request_of, AreSheets, IsSheetsCause};
-ghost use Rattle.gtfs_cli.specs.Sending.{or_none, Begins, IsSendingCause, PrintsText, SendsBeginning};
 
 use crate::commands::feed::read_feed;
 use crate::commands::refusal::Refusal;
@@ -91,14 +90,8 @@ fn send_sheets<'w, O: Out>(
     sheets: &[Sheet<'_>],
     out: &mut O,
 ) -> Result<(), Refusal<'w>>
-    ensures sent { OnOk result (Appends (O.told out.old) (O.told out.new)
-        (flat_map sheet_text (map plain_sheet sheets.now))) }
-    ensures cut_short { OnErr result (SendsBeginning (O.told out.old) (O.told out.new)
-        (flat_map sheet_text (map plain_sheet sheets.now))) }
-    ensures refused { IfErr result (IsSendingCause (O.failure_count out.old)
-        (O.failure_count out.new)) }
-    ensures grows { O.failure_count out.old ≤ O.failure_count out.new }
-    ensures no_failure { OnOk result (O.failure_count out.new ≡ O.failure_count out.old) }
+    ensures sent { IsSent (flat_map sheet_text (map plain_sheet sheets.now))
+        (⟦<O as OutSeen>⟧.seen out.old) (⟦<O as OutSeen>⟧.seen out.new) result }
 {
     let mut text = String::new(alloc);
     for sheet in sheets {
@@ -114,14 +107,8 @@ fn send_sheet<'w, O: Out>(
     sheet: &Sheet<'_>,
     out: &mut O,
 ) -> Result<(), Refusal<'w>>
-    ensures sent { OnOk result (Appends (O.told out.old) (O.told out.new)
-        (sheet_text (plain_sheet sheet.now))) }
-    ensures cut_short { OnErr result (SendsBeginning (O.told out.old) (O.told out.new)
-        (sheet_text (plain_sheet sheet.now))) }
-    ensures refused { IfErr result (IsSendingCause (O.failure_count out.old)
-        (O.failure_count out.new)) }
-    ensures grows { O.failure_count out.old ≤ O.failure_count out.new }
-    ensures no_failure { OnOk result (O.failure_count out.new ≡ O.failure_count out.old) }
+    ensures sent { IsSent (sheet_text (plain_sheet sheet.now)) (⟦<O as OutSeen>⟧.seen out.old)
+        (⟦<O as OutSeen>⟧.seen out.new) result }
 {
     text.clear();
     push_sheet(alloc, text, sheet)?;
