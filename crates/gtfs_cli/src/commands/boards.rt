@@ -117,7 +117,7 @@ fn print_requests<'w, O: Out>(
     requires known { fault_in (requests_in
         (content_of_parts index.now.feed) (zone_origin zone.now) times
         (numbered_from 1 (map (λ l. l.now) lines.now))) ≡ None }
-    ensures printed { let f = content_of_parts index.now.feed in let asked = requests_in f
+    ensures { let f = content_of_parts index.now.feed in let asked = requests_in f
         (zone_origin zone.now) times (numbered_from 1 (map (λ l. l.now) lines.now)) in PrintsText
         (AreAllBoards f zone.now asked) (StopsInAll BeginsBoard f zone.now asked)
         (or_none (StopsInAll BeginsWhole f zone.now asked)) (λ _. ⊥)
@@ -143,7 +143,7 @@ fn print_request<'w, O: Out>(
     requires times { request.now.values.times ≡ index.now.times }
     requires from { IsSound request.now.values.from }
     requires until { IsSound request.now.values.until }
-    ensures printed { let f = content_of_parts index.now.feed in let q = stop_request_of request.now in
+    ensures { let f = content_of_parts index.now.feed in let q = stop_request_of request.now in
         PrintsText (IsOneText f zone.now q) (BeginsBoard f zone.now q) (BeginsWhole f zone.now q) (λ _. ⊥)
         (⟦<O as OutSeen>⟧.seen out.old) (⟦<O as OutSeen>⟧.seen out.new) result }
 {

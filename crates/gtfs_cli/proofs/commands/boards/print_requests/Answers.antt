@@ -31,10 +31,10 @@ loop-line-preserved g c =
     let asks = ap (option_map stop_request_of) (sym c.in-Some.is) ∙ c.read_request.ensures.request in
     let here = at_line f z times texts old xs i _ c.loop-line-test.true _ c.loop-line.invariant.printed in
     record {
-      printed = past_board f z times texts old (i + 1) _ _ _ _ (stop_request_of c.in-Some.request) here asks c.in_ok-print_request.ensures.printed.printed.0
-          c.in_ok-print_request.ensures.printed.printed.1 c.in_ok-print_request.ensures.printed.printed.2;
-      grows = omega (arith, c.loop-line.invariant.grows, c.in_ok-print_request.ensures.printed.grows);
-      no_failure = c.in_ok-print_request.ensures.printed.no_failure ∙ c.loop-line.invariant.no_failure;
+      printed = past_board f z times texts old (i + 1) _ _ _ _ (stop_request_of c.in-Some.request) here asks c.in_ok-print_request.ensures.printed.0
+          c.in_ok-print_request.ensures.printed.1 c.in_ok-print_request.ensures.printed.2;
+      grows = omega (arith, c.loop-line.invariant.grows, c.in_ok-print_request.ensures.grows);
+      no_failure = c.in_ok-print_request.ensures.no_failure ∙ c.loop-line.invariant.no_failure;
     }
 
 pub loop-line-preserved-in_default : goal.loop-line-preserved-in_default
@@ -75,7 +75,7 @@ returns-in_err-print_request g c =
     let asks = ap (option_map stop_request_of) (sym c.in-Some.is) ∙ c.read_request.ensures.request in
     let here = at_line f z times texts old xs i _ c.loop-line-test.true _ c.loop-line.invariant.printed in
     let asked = asked_from f (zone_origin z) times 1 texts in
-    let p = c.in_err-print_request.ensures.printed in
+    let p = c.in_err-print_request.ensures in
     prints-up (AreAllBoards f z asked) (StopsInAll BeginsBoard f z asked) (or_none (StopsInAll BeginsWhole f z asked)) (λ _. ⊥) _ _ c.from_residual.result r c.from_residual.ensures.1
     (prints-later _ _ _ _ _ _ _ _ _ r c.loop-line.invariant.no_failure p
     (one-left f z times texts old (i + 1) _ _ _ new (stop_request_of c.in-Some.request) here asks r _ _ p.refused p.left.0 p.left.1 p.left.2))

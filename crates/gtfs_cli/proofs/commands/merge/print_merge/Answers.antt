@@ -82,4 +82,4 @@ returns g c =
     let again = reads-again f held now asked.out (written_form f c.soundness.ensures.content) c.in_ok-write_feed.ensures.read files in
     ends-merged limit held asked f (names_report c.in_ok-values.values.near m.names) c.in_ok-merged.ensures.merged now c.in_ok-write_feed.ensures.named files again _ _ _ _ refl refl
     (none-bad-merge asked (merge_request_of c.in_ok-values.values) c.in_ok-values.ensures.read) c.print_names.result
-    (asks-done 29 _ _ _ c.print_names.result (asks-then 20 9 _ _ _ m _ reads.asks c.in_ok-write_feed.ensures.asks)) c.print_names.ensures
+    (asks-done 29 _ _ _ c.print_names.result (asks-then 20 9 _ _ _ m _ reads.asks c.in_ok-write_feed.ensures.asks)) c.print_names.ensures.sent

@@ -19,4 +19,4 @@ returns g c =
     let f = content_of_parts c.args.feed.now in
     let are = ap (map plain_sheet) c.as_slice.ensures.value ∙ c.in_ok-sheets.ensures.sheets in
     sent-printed (AreSheets f c.args.route.now (timetable_request_of c.args.values.now)) _ _ _ _ (c.in_ok-sheets.ensures.known, ap (flat_map sheet_text) are) c.send_sheets.result
-    c.send_sheets.ensures
+    c.send_sheets.ensures.sent
