@@ -13,7 +13,7 @@ use Rattle.gtfs_columns.specs.Problems.{Passes}
 use Rattle.gtfs_cli.specs.HeldFiles.{HoldsErrors, HoldsKeptFile, HoldsPassing, HoldsTables, LacksFeed}
 use Rattle.gtfs_cli.specs.Judging.{feed, tables}
 use Rattle.gtfs_cli.specs.Messages.{line_of, message}
-use Rattle.gtfs_cli.specs.Outcomes.{IsRefusal}
+use Rattle.gtfs_cli.specs.Outcomes.{IsPlainRefusal}
 use Rattle.gtfs_cli.specs.Refusals.{status_of, IsReadingCause, IsTablesCause}
 use Rattle.gtfs_cli.specs.declared.commands.refusal.Refusal.{Refusal}
 use Rattle.gtfs_cli.specs.declared.commands.refusal.Refusal.TheVariants.{NotThere, Unreadable, OverLimit, HasErrors, OutputFailed, OutOfMemory}
@@ -72,7 +72,7 @@ module _ (limit : ℕ) (store : Store) (dir : List ℕ) where
   tables-reason before after still OutOfMemory enough h = absurd (enough refl)
   tables-reason before after still _ enough h = absurd h
 
-  reason-of-tables : (r : Refusal) → IsRefusal (tables limit (Some store) dir) r → Lacking r ⊎ Over r
+  reason-of-tables : (r : Refusal) → IsPlainRefusal (tables limit (Some store) dir) r → Lacking r ⊎ Over r
   reason-of-tables r h = tables-reason h.before.folders h.after.folders h.nowhere.folders r h.enough h.cause
 
   one-reason : (r s : Refusal) → Lacking r ⊎ Over r → Lacking s ⊎ Over s → Alike r s
@@ -108,7 +108,7 @@ module _ (limit : ℕ) (store : Store) (dir : List ℕ) where
   feed-reason before after still OutOfMemory enough h = absurd (enough refl)
   feed-reason before after still _ enough h = absurd h
 
-  reason-of-feed : (r : Refusal) → IsRefusal (feed limit (Some store) dir) r → Errors r ⊎ (Lacking r ⊎ Over r)
+  reason-of-feed : (r : Refusal) → IsPlainRefusal (feed limit (Some store) dir) r → Errors r ⊎ (Lacking r ⊎ Over r)
   reason-of-feed r h = feed-reason h.before.folders h.after.folders h.nowhere.folders r h.enough h.cause
 
   pub one-feed : One (feed limit (Some store) dir)

@@ -13,7 +13,7 @@ use Rattle.gtfs_cli.specs.Judging.{feed, followed_by, sending, values, Judged}
 use Rattle.gtfs_cli.specs.MergeOptions.{first_bad_merge, judged_merge, IsMergeRequest, MergeRequest}
 use Rattle.gtfs_cli.specs.Merges.{file_limit, merge_judges, merge_of, merge_plan, merging, report_for, with_files, writing, CanMerge, HasLargeMerge, IsFolderMerge, IsMerged, IsMergingCause, IsWritingCause, MergeLeaves, MergeSetting}
 use Rattle.gtfs_cli.specs.Messages.{line_of, message}
-use Rattle.gtfs_cli.specs.Outcomes.{IsRefusal}
+use Rattle.gtfs_cli.specs.Outcomes.{IsPlainRefusal}
 use Rattle.gtfs_cli.specs.Refusals.{status_of}
 use Rattle.gtfs_cli.specs.declared.commands.refusal.Refusal.{Refusal}
 use Rattle.gtfs_cli.specs.declared.commands.refusal.Refusal.TheVariants.{MergeTooLarge, OutputFailed, OutOfMemory, Unwritable, ZonesDiffer}
@@ -101,7 +101,7 @@ module _ (limit : ℕ) (store : Store) (asked : MergeTexts) where
   writing-path before after (Unwritable path) still (at, inr rises) = absurd (still rises)
   writing-path before after _ still h = absurd h
 
-  unwritten : (r : Refusal) (h : IsRefusal (writing asked) r) → (message r ≡ line_of asked.out (codes " cannot be written")) × (status_of r ≡ 3) × (asked.out ≡ [])
+  unwritten : (r : Refusal) (h : IsPlainRefusal (writing asked) r) → (message r ≡ line_of asked.out (codes " cannot be written")) × (status_of r ≡ 3) × (asked.out ≡ [])
   unwritten r h = writing-path h.before.folders h.after.folders r h.nowhere.folders h.cause
 
   one-writing : One (writing asked)
@@ -165,7 +165,7 @@ module _ (limit : ℕ) (store : Store) (asked : MergeTexts) where
   -- ---- what is left
 
   -- a folder that could not be written, though nothing failed, has no name
-  unnamed : (path : _) (h : IsRefusal (merge_judges limit held asked) (Unwritable path)) → asked.out ≡ []
+  unnamed : (path : _) (h : IsPlainRefusal (merge_judges limit held asked) (Unwritable path)) → asked.out ≡ []
   unnamed path h = by h.cause
     where
       by : (merge_judges limit held asked).Refuses h.before h.after (Unwritable path) → asked.out ≡ []
@@ -177,7 +177,7 @@ module _ (limit : ℕ) (store : Store) (asked : MergeTexts) where
       by (inr (a, inr (b, inr (c, inr (d, inl (at, inr rises)))))) = absurd (h.nowhere.folders rises)
       by (inr (a, inr (b, inr (c, inr (d, inr (e, bad)))))) = absurd bad
 
-  nothing-left : (now : Option Store) (part : List ℕ) (r : Refusal) → IsRefusal (merge_judges limit held asked) r → MergeLeaves limit held asked now part r → (now ≡ held) × (part ≡ [])
+  nothing-left : (now : Option Store) (part : List ℕ) (r : Refusal) → IsPlainRefusal (merge_judges limit held asked) r → MergeLeaves limit held asked now part r → (now ≡ held) × (part ≡ [])
   nothing-left now part (Unwritable path) h left =
       elim left.ends [ inl same ↦ (same.1, left.nothing) | inr stopped ↦ absurd (named-or-not stopped.0 (unnamed path h)) ]
   nothing-left now part OutputFailed h left = absurd (quiet-judges h)

@@ -6,7 +6,7 @@ use Rattle.gtfs_devices.specs.Folder.{Store}
 use Rattle.gtfs_cli.specs.Failures.{FailedNowhere}
 use Rattle.gtfs_cli.specs.Judging.{Judged}
 use Rattle.gtfs_cli.specs.Messages.{message}
-use Rattle.gtfs_cli.specs.Outcomes.{EndsAsOne, IsOutcome, IsRefusal, IsUnhindered, Outcome}
+use Rattle.gtfs_cli.specs.Outcomes.{EndsAsOne, IsOutcome, IsPlainRefusal, IsUnhindered, Outcome}
 use Rattle.gtfs_cli.specs.Plan.{failures_of, prints, Ends, IsRun, Plan, TellsEnd}
 use Rattle.gtfs_cli.specs.Refusals.{status_in, status_of}
 use Rattle.gtfs_cli.specs.Seen.{Devices, Output}
@@ -19,12 +19,12 @@ use Rattle.gtfs_cli.proofs.OneRefusal.{One, Quiet}
 pub record IsOne (plan : Plan) (held : Option Store) : Type 0 where
   pub done : (now later : Option Store) (t u : List ℕ) (f g : Bool) → plan.Done now t f → plan.Done later u g → (now ≡ later) × (t ≡ u) × (f ≡ g)
   pub refusal : One plan.judges
-  pub apart : (now : Option Store) (t : List ℕ) (f : Bool) → plan.Done now t f → (r : Refusal) → IsRefusal plan.judges r → ⊥
-  pub nothing : (now : Option Store) (part : List ℕ) (r : Refusal) → IsRefusal plan.judges r → plan.Left now part r → (now ≡ held) × (part ≡ [])
+  pub apart : (now : Option Store) (t : List ℕ) (f : Bool) → plan.Done now t f → (r : Refusal) → IsPlainRefusal plan.judges r → ⊥
+  pub nothing : (now : Option Store) (part : List ℕ) (r : Refusal) → IsPlainRefusal plan.judges r → plan.Left now part r → (now ≡ held) × (part ≡ [])
 
 -- that of a command that prints a text
 pub one-printed : (held : Option Store) (judges : Judged) (Text : List ℕ → Bool → Type 0) (Cut Stopped : List ℕ → Type 0) (calls : ℕ)
-    → ((t u : List ℕ) (f g : Bool) → Text t f → Text u g → (t ≡ u) × (f ≡ g)) → One judges → ((t : List ℕ) (f : Bool) → Text t f → (r : Refusal) → IsRefusal judges r → ⊥)
+    → ((t u : List ℕ) (f g : Bool) → Text t f → Text u g → (t ≡ u) × (f ≡ g)) → One judges → ((t : List ℕ) (f : Bool) → Text t f → (r : Refusal) → IsPlainRefusal judges r → ⊥)
     → Quiet judges → IsOne (prints held judges Text Cut Stopped calls) held
 one-printed held judges Text Cut Stopped calls text one apart quiet = record {
   done = λ now later t u f g a b. (a.0 ∙ sym b.0, text t u f g a.1 b.1);
@@ -33,7 +33,7 @@ one-printed held judges Text Cut Stopped calls text one apart quiet = record {
   nothing = λ now part r h left. (left.0, none part r h left.1);
 }
   where
-    none : (part : List ℕ) (r : Refusal) → IsRefusal judges r → text_left Cut (or_none Stopped) part r → part ≡ []
+    none : (part : List ℕ) (r : Refusal) → IsPlainRefusal judges r → text_left Cut (or_none Stopped) part r → part ≡ []
     none part OutputFailed h left = absurd (quiet h)
     none part OutOfMemory h left = absurd (h.enough refl)
     none part _ h left = left
@@ -68,13 +68,13 @@ module _ (plan : Plan) (held : Option Store) (law : IsOne plan held) where
           record { folders = refl; text = sent.2; line = inl (appends-nothing err.told told.told keeps); gives = gives },
         )
 
-    refusal-of : (r : Refusal) → Ends plan before after (Err r) → status ≡ status_of r → IsRefusal plan.judges r
+    refusal-of : (r : Refusal) → Ends plan before after (Err r) → status ≡ status_of r → IsPlainRefusal plan.judges r
     refusal-of r ends gives = by ends.refused
       where
         enough : r ≢ OutOfMemory
         enough is = free.memory (gives ∙ ap status_of is)
 
-        by : plan.judges.Refuses (failures_of before) (failures_of after) r ⊎ ((r ≡ OutOfMemory) × FailedNowhere (failures_of before) (failures_of after)) → IsRefusal plan.judges r
+        by : plan.judges.Refuses (failures_of before) (failures_of after) r ⊎ ((r ≡ OutOfMemory) × FailedNowhere (failures_of before) (failures_of after)) → IsPlainRefusal plan.judges r
         by (inl cause) = record { before = failures_of before; after = failures_of after; nowhere = free.nowhere; cause = cause; enough = enough }
         by (inr memory) = absurd (enough memory.0)
 

@@ -4,7 +4,7 @@ use Rattle.clap.specs.Words.{Text}
 use Rattle.gtfs_cli.specs.Judging.{followed_by, sending, values, IsFirstBad, Judged}
 use Rattle.gtfs_cli.specs.Messages.{line_of, message}
 use Rattle.gtfs_cli.specs.Options.{first_of_bad}
-use Rattle.gtfs_cli.specs.Outcomes.{IsRefusal}
+use Rattle.gtfs_cli.specs.Outcomes.{IsPlainRefusal}
 use Rattle.gtfs_cli.specs.Refusals.{status_of}
 use Rattle.gtfs_cli.specs.declared.commands.refusal.Refusal.{Refusal}
 use Rattle.gtfs_cli.specs.declared.commands.refusal.Refusal.TheVariants.{BadValue, OutputFailed, OutOfMemory}
@@ -30,21 +30,21 @@ line-at path dir after is = ap (λ (t : List ℕ). line_of t after) is
 
 -- two refusals tell the same
 abbrev pub One : Judged → Type 0
-One j = (r s : Refusal) → IsRefusal j r → IsRefusal j s → Alike r s
+One j = (r s : Refusal) → IsPlainRefusal j r → IsPlainRefusal j s → Alike r s
 
 -- where this is so, nothing is refused
 abbrev pub Excludes : Type 0 → Judged → Type 0
-Excludes Fact j = Fact → (r : Refusal) → IsRefusal j r → ⊥
+Excludes Fact j = Fact → (r : Refusal) → IsPlainRefusal j r → ⊥
 
 -- the output is never to blame
 abbrev pub Quiet : Judged → Type 0
-Quiet j = IsRefusal j OutputFailed → ⊥
+Quiet j = IsPlainRefusal j OutputFailed → ⊥
 
 module _ (j k : Judged) where
-  first : (r : Refusal) (h : IsRefusal (followed_by j k) r) → j.Refuses h.before h.after r → IsRefusal j r
+  first : (r : Refusal) (h : IsPlainRefusal (followed_by j k) r) → j.Refuses h.before h.after r → IsPlainRefusal j r
   first r h cause = record { before = h.before; after = h.after; nowhere = h.nowhere; cause = cause; enough = h.enough }
 
-  second : (r : Refusal) (h : IsRefusal (followed_by j k) r) → k.Refuses h.before h.after r → IsRefusal k r
+  second : (r : Refusal) (h : IsPlainRefusal (followed_by j k) r) → k.Refuses h.before h.after r → IsPlainRefusal k r
   second r h cause = record { before = h.before; after = h.after; nowhere = h.nowhere; cause = cause; enough = h.enough }
 
   pub one-chain : One j → Excludes j.Holds j → One k → One (followed_by j k)
@@ -68,7 +68,7 @@ excludes-by Fact Holds j f apart fact r h = apart (f fact) r h
 
 -- ---- the output
 
-none-sending : (r : Refusal) → IsRefusal sending r → ⊥
+none-sending : (r : Refusal) → IsPlainRefusal sending r → ⊥
 none-sending OutputFailed h = h.nowhere.output h.cause
 none-sending OutOfMemory h = h.enough refl
 none-sending _ h = h.cause

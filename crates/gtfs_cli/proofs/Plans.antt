@@ -8,7 +8,7 @@ use Rattle.gtfs_devices.specs.Folder.{Store}
 use Rattle.gtfs_cli.specs.Failures.{FailedNowhere}
 use Rattle.gtfs_cli.specs.Judging.{Judged}
 use Rattle.gtfs_cli.specs.Plan.{answer_of, passed, prints, Ends, IsRefusedIn, Plan}
-use Rattle.gtfs_cli.specs.Reads.{Asks}
+use Rattle.gtfs_cli.specs.Reads.{CallsFolders}
 use Rattle.gtfs_cli.specs.Refusals.{TellsFolders, TellsOutput}
 use Rattle.gtfs_cli.specs.Seen.{Device, Devices, Output}
 use Rattle.gtfs_cli.specs.Sending.{or_none, text_left, Begins, IsSendingCause, IsSent, PrintsText, SendsSome}
@@ -26,14 +26,14 @@ pub err-up-check : (r : Result Bool Refusal) (e : Refusal) (P : Result Bool Refu
 err-up-check (Ok x) e P is h = absurd is
 err-up-check (Err y) e P is h = subst (λ (x : Refusal). P (Err x)) (sym is) h
 
-pub asks-answered : {A : Type 0} (n : ℕ) (a b : Device) (r : Result A Refusal) → Asks n a b r → Asks n a b (answer_of r)
+pub asks-answered : {A : Type 0} (n : ℕ) (a b : Device) (r : Result A Refusal) → CallsFolders n a b r → CallsFolders n a b (answer_of r)
 asks-answered n a b (Ok x) h = record { grows = h.grows; no_failure = h.no_failure; told = tt; called = h.called; few = h.few; last = h.last }
 asks-answered n a b (Err e) h = record { grows = h.grows; no_failure = tt; told = h.told; called = tt; few = h.few; last = h.last }
 
 -- ---- refused before anything goes out
 
 pub ends-refused : (plan : Plan) (a b : Device) (o : Output) (r : Refusal) → plan.Left b.held [] r
-    → IsRefusedIn plan.judges (record { folders = a; output = o }) (record { folders = b; output = o }) r → Asks plan.calls {Bool} a b (Err r)
+    → IsRefusedIn plan.judges (record { folders = a; output = o }) (record { folders = b; output = o }) r → CallsFolders plan.calls {Bool} a b (Err r)
     → Ends plan (record { folders = a; output = o }) (record { folders = b; output = o }) (Err r)
 ends-refused plan a b o r left cause asks = record {
   done = tt;
@@ -72,7 +72,7 @@ module _ (a b : Device) (before after : Output) (judges : Judged) (Text Cut Stop
     (cause : (e : Refusal) → (e ≡ OutOfMemory → FailedNowhere (record { folders = a.failures; output = before.failures }) (record { folders = b.failures; output = after.failures }))
     → Cause e ⊎ IsSendingCause before.failures after.failures e
     → IsRefusedIn judges (record { folders = a; output = before }) (record { folders = b; output = after }) e) (same : b.held ≡ a.held) where
-  pub ends-printed : {A : Type 0} (r : Result A Refusal) → Asks calls a b r → PrintsText W C D Cause before after r
+  pub ends-printed : {A : Type 0} (r : Result A Refusal) → CallsFolders calls a b r → PrintsText W C D Cause before after r
       → Ends (prints a.held judges (passed Text) Cut Stopped calls) (record { folders = a; output = before }) (record { folders = b; output = after }) (answer_of r)
   ends-printed (Ok x) asks p = record {
     done = let sent = p.printed in (sent.0, (same, (refl, whole sent.0 sent.1)), sent.2);
@@ -213,7 +213,7 @@ module _ (a b : Device) (before after : Output) (judges : Judged) (Text : List �
   Some t = (failed : Bool) × Text t failed
 
   -- its text was sent out, and this is its answer
-  pub ends-checked : (failed : Bool) → Text text failed → (r : Result Bool Refusal) → IfOk r (λ x. x ≡ failed) → Asks calls a b r → IsSent text before after r
+  pub ends-checked : (failed : Bool) → Text text failed → (r : Result Bool Refusal) → IfOk r (λ x. x ≡ failed) → CallsFolders calls a b r → IsSent text before after r
       → Ends (prints a.held judges Text (Begins Some) (Begins Some) calls) (record { folders = a; output = before }) (record { folders = b; output = after }) r
   ends-checked failed is (Ok x) answer asks h = record {
     done = (text, (same, subst (Text text) (sym answer) is), h.sent);

@@ -19,7 +19,7 @@ use Rattle.gtfs_cli.specs.MergeParts.{HoldsMerge}
 use Rattle.gtfs_cli.specs.Merges.{file_limit, merge_judges, merge_of, merge_plan, report_for, BeginsReport, CanMerge, HoldsFiles, IsFolderMerge, IsFoldersCause, IsMerged, IsMergeFault, IsMergingCause, IsWritingCause, IsWritingEnd, IsWritten, MergeLeaves, MergeSetting, ReadsAgain, StopsAtOne}
 use Rattle.gtfs_cli.specs.NamesReport.{names_report}
 use Rattle.gtfs_cli.specs.Plan.{answer_of, failures_of, Ends, IsRefusedIn}
-use Rattle.gtfs_cli.specs.Reads.{Asks}
+use Rattle.gtfs_cli.specs.Reads.{CallsFolders}
 use Rattle.gtfs_cli.specs.Refusals.{IsReadingCause}
 use Rattle.gtfs_cli.specs.Seen.{Device, Devices, Output}
 use Rattle.gtfs_cli.specs.Sending.{Begins, IsSendingCause, IsSent}
@@ -147,7 +147,7 @@ module _ (limit : ℕ) (held : Option Store) (asked : MergeTexts) where
       sending-left x y _ h part left whole = absurd h
 
       -- how the merge ends whose report was to be sent out
-      pub ends-merged : {A : Type 0} (a b : Device) (x y : Output) → a.held ≡ held → b.held ≡ now → first_bad_merge asked ≡ None → (r : Result A Refusal) → Asks 29 a b r → IsSent report x y r
+      pub ends-merged : {A : Type 0} (a b : Device) (x y : Output) → a.held ≡ held → b.held ≡ now → first_bad_merge asked ≡ None → (r : Result A Refusal) → CallsFolders 29 a b r → IsSent report x y r
           → Ends (merge_plan limit held asked) (record { folders = a; output = x }) (record { folders = b; output = y }) (answer_of r)
       ends-merged a b x y before after none (Ok v) asks sent = record {
         done = (report, (refl, subst (λ (n : Option Store). IsMerged limit held asked n report) (sym after) merged), sent.sent);

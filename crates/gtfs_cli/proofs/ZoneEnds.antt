@@ -14,7 +14,7 @@ use Rattle.gtfs_cli.specs.HeldFiles.{FitsZone, HasBytes, HoldsBytes, HoldsFile, 
 use Rattle.gtfs_cli.specs.Judging.{zone}
 use Rattle.gtfs_cli.specs.ManyBoards.{request_file}
 use Rattle.gtfs_cli.specs.Messages.{line_of, message}
-use Rattle.gtfs_cli.specs.Outcomes.{IsRefusal}
+use Rattle.gtfs_cli.specs.Outcomes.{IsPlainRefusal}
 use Rattle.gtfs_cli.specs.Refusals.{status_of}
 use Rattle.gtfs_cli.specs.declared.commands.refusal.Refusal.{Refusal}
 use Rattle.gtfs_cli.specs.declared.commands.refusal.Refusal.TheVariants.{NotThere, Unreadable, OverLimit, NoZone, OutputFailed, OutOfMemory}
@@ -139,7 +139,7 @@ module _ (limit : ℕ) (store : Store) (path : List ℕ) where
   one-reason r s (inr (inr a)) (inr (inl b)) = absurd (nameless_over b.0 a.0)
   one-reason r s (inr (inr a)) (inr (inr b)) = alike r s (line_of path (codes " holds a file over the limit")) 3 a.1 b.1
 
-  reason-of-file : (r : Refusal) → IsRefusal (request_file limit (Some store) path) r → FileReason r
+  reason-of-file : (r : Refusal) → IsPlainRefusal (request_file limit (Some store) path) r → FileReason r
   reason-of-file r h = file-reason h.before.folders h.after.folders h.nowhere.folders r h.enough h.cause
 
   pub one-file : One (request_file limit (Some store) path)
@@ -164,7 +164,7 @@ module _ (limit : ℕ) (store : Store) (path : List ℕ) where
   zone-reason before after still OutOfMemory enough h = absurd (enough refl)
   zone-reason before after still _ enough h = absurd h
 
-  reason-of-zone : (r : Refusal) → IsRefusal (zone limit (Some store) path) r → Unzoned r ⊎ FileReason r
+  reason-of-zone : (r : Refusal) → IsPlainRefusal (zone limit (Some store) path) r → Unzoned r ⊎ FileReason r
   reason-of-zone r h = zone-reason h.before.folders h.after.folders h.nowhere.folders r h.enough h.cause
 
   pub one-zone : One (zone limit (Some store) path)

@@ -33,7 +33,7 @@ pub record IsDone (plan : Plan) (o : Outcome) : Type 0 where
   pub status : o.status ≡ cond failed 1 0
 
 -- a refusal that neither a failure nor want of memory is the cause of
-pub record IsRefusal (judges : Judged) (refusal : Refusal) : Type 0 where
+pub record IsPlainRefusal (judges : Judged) (refusal : Refusal) : Type 0 where
   pub before : Failures
   pub after : Failures
   pub nowhere : FailNowhere before after
@@ -43,7 +43,7 @@ pub record IsRefusal (judges : Judged) (refusal : Refusal) : Type 0 where
 -- such a refusal came: its line is told, nothing is printed, and the folders hold what they held
 pub record IsRefused (plan : Plan) (held : Option Store) (o : Outcome) : Type 0 where
   pub refusal : Refusal
-  pub is_refusal : IsRefusal plan.judges refusal
+  pub is_refusal : IsPlainRefusal plan.judges refusal
   pub folders : o.folders ≡ held
   pub text : o.text ≡ []
   pub told : o.told ≡ message refusal

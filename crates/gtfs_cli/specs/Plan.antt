@@ -5,7 +5,7 @@ use Rattle.gtfs_devices.specs.Folder.{Store}
 use Rattle.gtfs_cli.specs.Failures.{FailedNowhere, Failures}
 use Rattle.gtfs_cli.specs.Judging.{Judged}
 use Rattle.gtfs_cli.specs.Messages.{message}
-use Rattle.gtfs_cli.specs.Reads.{Asks}
+use Rattle.gtfs_cli.specs.Reads.{CallsFolders}
 use Rattle.gtfs_cli.specs.Refusals.{status_in, TellsOutput}
 use Rattle.gtfs_cli.specs.Seen.{Devices, Output}
 use Rattle.gtfs_cli.specs.Sending.{or_none, text_left, Sends, SendsSome}
@@ -58,7 +58,7 @@ pub record Ends (plan : Plan) (before after : Devices) (ended : Result Bool Refu
   pub told : IfErr ended (TellsOutput before.output.failures after.output.failures)
   pub grows : before.output.failures ≤ after.output.failures
   pub no_failure : OnOk ended (after.output.failures ≡ before.output.failures)
-  pub asks : Asks plan.calls before.folders after.folders ended
+  pub asks : CallsFolders plan.calls before.folders after.folders ended
 
 -- ---- how the program ends
 

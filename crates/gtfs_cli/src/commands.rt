@@ -1,6 +1,6 @@
 //! The commands of the program, and how each ends.
-ghost use Rattle.std.specs.Prelude.{◌≡◌, ◌≢◌, ◌≤◌, List, false, map, IfOk, IsErrAnd};
-ghost use Rattle.std.specs.Io.KnownBytes.{Keeps};
+ghost use Rattle.std.specs.Prelude.{◌≡◌, ◌≢◌, ◌≤◌, List, false, map, IfOk, IfSome, IsErrAnd, OnOk};
+ghost use Rattle.std.specs.Io.KnownBytes.{Appends, Keeps};
 ghost use Rattle.clap.specs.Words.{Text};
 ghost use Rattle.gtfs_commands.specs.Words.{no_memory, IsFaultOf};
 ghost use Rattle.gtfs_cli.specs.Asked.{plan_of, Asked, Asks, IsAnswer, IsWordsCause};
@@ -9,6 +9,7 @@ ghost use Rattle.gtfs_cli.specs.Plan.{answer_of, Ends, IsRun, TellsEnd};
 ghost use Rattle.gtfs_cli.specs.Refusals.{status_in};
 ghost use Rattle.gtfs_cli.specs.Seen.{Devices, Output};
 ghost use Rattle.gtfs_cli.specs.Sending.{or_none, Begins, PrintsText};
+ghost use Rattle.gtfs_cli.specs.UntakenWords.{text_for_output, AnswersRefused};
 ghost use Rattle.gtfs_cli.specs.declared.commands.refusal.Refusal.TheVariants.{OutOfMemory};
 
 mod board;
@@ -182,6 +183,9 @@ fn answer_fault<'w, O: Out>(fault: WordsFault, out: &mut O) -> Result<bool, Refu
     ensures ends { (words : List Text) → IsFaultOf words fault → PrintsText (IsAnswer words)
         (Begins (IsAnswer words)) (or_none (Begins (IsAnswer words))) (IsWordsCause words)
         (⟦<O as OutSeen>⟧.seen out.old) (⟦<O as OutSeen>⟧.seen out.new) result }
+    ensures whole { OnOk result (IfSome (text_for_output fault)
+        (λ text. Appends (O.told out.old) (O.told out.new) text)) }
+    ensures said { AnswersRefused fault result }
     ensures clean { IfOk result (λ failed. failed ≡ false) }
     ensures memory { fault ≡ no_memory → IsErrAnd result (λ refusal. refusal ≡ OutOfMemory) }
     ensures unsent { fault ≡ no_memory → Keeps (O.told out.old) (O.told out.new) }

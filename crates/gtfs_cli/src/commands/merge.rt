@@ -15,7 +15,7 @@ ghost use Rattle.gtfs_cli.specs.Merges.{file_limit, file_text, merge_plan, Holds
 ghost use Rattle.gtfs_cli.specs.MergeOptions.{IsMergeRequest};
 ghost use Rattle.gtfs_cli.specs.MergeParts.{merge_request_of, AllReadAs, HoldsMerge, ReadsAs};
 ghost use Rattle.gtfs_cli.specs.Plan.{answer_of, Ends};
-ghost use Rattle.gtfs_cli.specs.Reads.{Asks, Reads};
+ghost use Rattle.gtfs_cli.specs.Reads.{CallsFolders, Reads};
 ghost use Rattle.gtfs_cli.specs.Refusals.{TellsFolders};
 
 use crate::commands::feed::read_draft;
@@ -135,7 +135,7 @@ fn write_feed<'w, F: Folders>(
     ensures refused { IfErr result (IsWritingEnd (F.held folders.old) (F.held folders.new)
         (F.failure_count folders.old) (F.failure_count folders.new)
         dir.now (content_of_parts feed.now)) }
-    ensures asks { Asks 9 (⟦<F as FoldersSeen>⟧.seen folders.old)
+    ensures asks { CallsFolders 9 (⟦<F as FoldersSeen>⟧.seen folders.old)
         (⟦<F as FoldersSeen>⟧.seen folders.new) result }
 {
     if dir.is_empty() {
@@ -161,7 +161,7 @@ fn write_file<'w, F: Folders>(
     ensures read { OnOk result (ReadsAs (content_of_parts feed.now) file) }
     ensures refused { IfErr result (IsFileEnd (F.held folders.old) (F.held folders.new)
         (F.failure_count folders.old) (F.failure_count folders.new) dir.now file) }
-    ensures asks { Asks 1 (⟦<F as FoldersSeen>⟧.seen folders.old)
+    ensures asks { CallsFolders 1 (⟦<F as FoldersSeen>⟧.seen folders.old)
         (⟦<F as FoldersSeen>⟧.seen folders.new) result }
 {
     let text = text_of_file(alloc, feed, file, memory)?;
