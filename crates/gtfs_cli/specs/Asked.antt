@@ -17,13 +17,13 @@ use Rattle.gtfs_cli.specs.declared.commands.refusal.Refusal.{Refusal}
 use Rattle.gtfs_cli.specs.declared.commands.refusal.Refusal.TheVariants.{Words}
 
 -- a command with the texts that are given to it, or words that `clap` does not take: they ask for help or for the version, or are refused
-data pub Asked : Type 0 where
-  pub Check : Text → Asked
-  pub Board : BoardTexts → Asked
-  pub Boards : BoardsTexts → Asked
-  pub Timetable : TimetableTexts → Asked
-  pub Merge : MergeTexts → Asked
-  pub Untaken : Asked
+pub data Asked : Type 0 where
+  Check : Text → Asked
+  Board : BoardTexts → Asked
+  Boards : BoardsTexts → Asked
+  Timetable : TimetableTexts → Asked
+  Merge : MergeTexts → Asked
+  Untaken : Asked
 
 -- the words ask for it
 abbrev pub Asks : List Text → Asked → Type 0

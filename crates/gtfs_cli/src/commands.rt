@@ -98,13 +98,23 @@ pub fn run<S: AsStr, F: Folders, O: Out, E: Out>(
 ) -> u8
     ensures asks { (asked : Asked) × Asks (map S.text words.now) asked }
     ensures ends { let before : Devices = record {
-            folders = record { limit = F.limit folders.old; held = F.held folders.old;
-                failures = F.failure_count folders.old; calls = F.calls folders.old };
-            output = record { told = O.told out.old; failures = O.failure_count out.old } } in
+      folders = record {
+        limit = F.limit folders.old;
+        held = F.held folders.old;
+        failures = F.failure_count folders.old;
+        calls = F.calls folders.old;
+      };
+      output = record { told = O.told out.old; failures = O.failure_count out.old };
+    } in
         let after : Devices = record {
-            folders = record { limit = F.limit folders.new; held = F.held folders.new;
-                failures = F.failure_count folders.new; calls = F.calls folders.new };
-            output = record { told = O.told out.new; failures = O.failure_count out.new } } in
+          folders = record {
+            limit = F.limit folders.new;
+            held = F.held folders.new;
+            failures = F.failure_count folders.new;
+            calls = F.calls folders.new;
+          };
+          output = record { told = O.told out.new; failures = O.failure_count out.new };
+        } in
         let err_before : Output = record { told = E.told err.old; failures = E.failure_count err.old } in
         let err_after : Output = record { told = E.told err.new; failures = E.failure_count err.new } in
         (asked : Asked) → Asks (map S.text words.now) asked

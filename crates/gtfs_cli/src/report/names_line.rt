@@ -30,9 +30,14 @@ pub(crate) enum NamesLine<'a> {
         new: &'a str,
     },
     // How many ids of a kind are joined: `joined KIND COUNT` and a line feed.
-    Joined { kind: Kind, count: usize },
+    Joined {
+        kind: Kind,
+        count: usize,
+    },
     // How many stops are near: `near stop COUNT` and a line feed.
-    Near { count: usize },
+    Near {
+        count: usize,
+    },
 }
 
 impl NamesLine<'_> {
