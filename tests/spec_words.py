@@ -11,8 +11,10 @@ IMPORT = re.compile(r"use (Rattle(?:\.\w+)+)\.(?:\{([^}]*)\}|(\w+))")
 # Where a definition of specs/ begins, and lines there that are none.
 DEFINITION = re.compile(r"(?:(?:abbrev|unfoldable|pub|record|data) )*(\S+)")
 NO_DEFINITION = re.compile(r"(?:(?:unfoldable|pub) )*(?:use|mod|open) ")
-# What a source has that is no code: comments, texts and characters.
-NO_CODE = re.compile(r"""//[^\n]*|b?"(?:\\.|[^"\\])*"|b?'(?:\\[^']+|[^'\\\n])'""", re.S)
+# What a source has that is no code: comments, texts and characters. A comment within one is told as /* alone.
+NO_CODE = re.compile(
+    r"""//[^\n]*|/\*(?:(?!/\*).)*?\*/|/\*|\bb?r(#*)".*?"\1|b?"(?:\\.|[^"\\])*"|b?'(?:\\.[^']*|[^'\\\n])'""", re.S
+)
 CLAUSE = re.compile(r"\b(requires|ensures)(\s+\w+)?\s*$")
 ATTRIBUTES = r"(?:#\[[^]]*\]\s*)*"
 CLOSED = {"(": ")", "[": "]", "{": "}"}
