@@ -3,6 +3,7 @@
 A digest is one of the crate's src/, specs/ and wrong-bodies/. It leaves out comments, blank lines and blanks at the ends of lines,
 so that an edited comment asks for no new trial. In doubt something counts as code.
 """
+import fcntl
 import hashlib
 import os
 import re
@@ -66,12 +67,14 @@ def lines_tried():
 
 
 def put_line(crate, count, digest, order):
-    """Writes the line of a crate. Lines stand in an order of crates."""
-    lines = {**lines_tried(), crate: (count, digest)}
+    """Writes the line of a crate. Lines stand in an order of crates. Of trials that end side by side each gets its turn."""
     path = os.path.join(ROOT, FILE)
-    with open(path + ".new", "w", encoding="utf-8") as file:
-        file.write(HEAD + "".join(f"{name} {lines[name][0]} {lines[name][1]}\n" for name in order if name in lines))
-    os.replace(path + ".new", path)
+    with open(os.path.abspath(__file__), "rb") as turn:
+        fcntl.flock(turn, fcntl.LOCK_EX)
+        lines = {**lines_tried(), crate: (count, digest)}
+        with open(path + ".new", "w", encoding="utf-8") as file:
+            file.write(HEAD + "".join(f"{name} {lines[name][0]} {lines[name][1]}\n" for name in order if name in lines))
+        os.replace(path + ".new", path)
 
 
 def faults_of(counts):
