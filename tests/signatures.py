@@ -133,6 +133,7 @@ def members_of_impl(item, is_trait):
     for member in items_of(item.body):
         head = without_attributes(member.head)
         found = MEMBER.match(head.removeprefix("pub "))
+        want(found or is_trait or not is_public(head), f"this is not understood: {plain(head)}")
         if found and (found[1] != "fn" if is_trait else is_public(head)):
             members[found[2]] = member_lines(member)
     return members
@@ -197,13 +198,24 @@ def meanings_in(items, lines):
     return {f"{name} is {path}" for name, path in imports.items() if name in used and not re.match("(crate|self|super)::", path)}
 
 
-def handed_on(front):
+def public_imports(code):
+    """What the `pub use` lines of a file hand on: each name and its path."""
+    for item in items_of(code):
+        if without_attributes(item.head).startswith("pub use "):
+            found = list(imports_in(item.head))
+            want(found, f"this is not understood: {plain(item.head)}")
+            yield from found
+
+
+def handed_on(front, names):
     """The names of other crates that a front door hands on."""
     own = {name for _, name in MODULE.findall(front)}
-    for item in items_of(front):
-        for name, path in imports_in(item.head) if is_public(item.head) else ():
-            if path.split("::")[0] not in own:
-                yield f"pub use {path}" + f" as {name}" * (path.split("::")[-1] != name)
+    for name, path in public_imports(front):
+        first, *_, last = path.split("::")
+        if first not in own:
+            yield f"pub use {path}" + f" as {name}" * (last != name)
+        else:
+            want(name in names and name == last, f"this is not understood: pub use {path} as {name}")
 
 
 def surface_of_codes(codes):
@@ -211,8 +223,9 @@ def surface_of_codes(codes):
     front = codes[FRONT]
     names, own_traits = names_handed_out(front) | defined_in(front), own_traits_of(codes.values())
     public = {name for is_public_one, name in MODULE.findall(front) if is_public_one}
-    surface = Surface(set(handed_on(front)))
+    surface = Surface(set(handed_on(front, names)))
     for module, code in codes.items():
+        want(module not in public or not list(public_imports(code)), f"the public module {module} hands on names, which is not understood")
         scope = Scope(defined_in(code), own_traits, module) if module in public else Scope(names, own_traits)
         items = list(items_of(code))
         surface.meanings |= meanings_in(items, [line for item in items for line in read_item(surface, item, scope)])
