@@ -42,6 +42,18 @@ def table_rows(lines):
     return rows
 
 
+def first_table(lines):
+    """The lines up to the end of the first table."""
+    begin = next(at for at, line in enumerate(lines) if line.startswith("|"))
+    end = next(at for at in range(begin, len(lines)) if not lines[at].startswith("|"))
+    return lines[:end]
+
+
+def crates_of_the_product():
+    """The libraries of the product and its program, the last one."""
+    return [name for name, _ in table_rows(first_table(lines_of(PAGE)))]
+
+
 def test_crates_of_the_page():
     crates = listed_crates(lines_of(LIST))
     want(crates, f"{LIST} lists no crate")

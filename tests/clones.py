@@ -70,7 +70,7 @@ gtfs: gtfs_rules csv
 gtfs_rules: gtfs_table gtfs_days jiff csv
 gtfs_days: gtfs_field jiff
 gtfs_table: gtfs_field csv
-gtfs_bench: gtfs_table csv
+example: gtfs_table csv
 gtfs_field: jiff
 """
 MIDDLE = ("gtfs_days", "gtfs_table")
@@ -98,7 +98,7 @@ class Clone:
         self.notes = os.path.join(room, "notes")
         self.program = self.path("crates", "gtfs", "out", "gtfs")
         self.ready = self.path("dist", "gtfs-x86_64-linux")
-        for crate in (*BELOW, "gtfs_bench"):
+        for crate in (*BELOW, "example"):
             write(self.source_of(crate), f"// {crate}\n")
         write(self.path("crates.txt"), CRATES)
         for name in COPIED:

@@ -11,8 +11,10 @@ IMPORT = re.compile(r"use (Rattle(?:\.\w+)+)\.(?:\{([^}]*)\}|(\w+))")
 # Where a definition of specs/ begins, and lines there that are none.
 DEFINITION = re.compile(r"(?:(?:abbrev|unfoldable|pub|record|data) )*(\S+)")
 NO_DEFINITION = re.compile(r"(?:(?:unfoldable|pub) )*(?:use|mod|open) ")
-# What a source has that is no code: comments, texts and characters.
-NO_CODE = re.compile(r"""//[^\n]*|b?"(?:\\.|[^"\\])*"|b?'(?:\\[^']+|[^'\\\n])'""", re.S)
+# What a source has that is no code: comments, texts and characters. A comment within one is told as /* alone.
+NO_CODE = re.compile(
+    r"""//[^\n]*|/\*(?:(?!/\*).)*?\*/|/\*|\bb?r(#*)".*?"\1|b?"(?:\\.|[^"\\])*"|b?'(?:\\.[^']*|[^'\\\n])'""", re.S
+)
 CLAUSE = re.compile(r"\b(requires|ensures)(\s+\w+)?\s*$")
 ATTRIBUTES = r"(?:#\[[^]]*\]\s*)*"
 CLOSED = {"(": ")", "[": "]", "{": "}"}
@@ -39,11 +41,12 @@ class Module:
 
 @dataclass
 class Item:
-    """An item of a source: what stands before its body, its clauses, and its body."""
+    """An item of a source: what stands before its body, its clauses, its body, and those clauses that it requires, with their labels."""
 
     head: str
     clauses: list
     body: str
+    required: list
 
 
 @dataclass
@@ -156,16 +159,17 @@ def end_of(text, start):
 
 def items_of(code):
     """The items of a source or of a body, one after another."""
-    head, clauses, place = "", [], 0
+    head, clauses, required, place = "", [], [], 0
     while place < len(code):
         end = end_of(code, place) if code[place] in CLOSED else place
         clause = CLAUSE.search(head) if code[place] == "{" else None
         if clause:
             clauses.append(code[place + 1 : end])
+            required += [head[clause.start() :] + code[place : end + 1]] if clause[1] == "requires" else []
             head = head[: clause.start()]
         elif code[place] == ";" or (code[place] == "{" and not re.search(r"(\.|::|=)\s*$", head)):
-            yield Item(head.strip(), clauses, code[place + 1 : end])
-            head, clauses = "", []
+            yield Item(head.strip(), clauses, code[place + 1 : end], required)
+            head, clauses, required = "", [], []
         else:
             head += code[place : end + 1]
         place = end + 1
@@ -176,18 +180,22 @@ def imported_in(items):
     return dict(imports_of("\n".join(item.head for item in items if item.head.startswith("ghost use"))))
 
 
-def handed_out(crate):
+def names_handed_out(code):
     """The names of a crate's own that its front door hands out."""
-    code = code_of(source(os.path.join(ROOT, "crates", crate, "src", "lib.rt")))
     lines = re.findall(r"pub use (\w+)(?:::\w+)*::(?:\{([^}]*)\}|(\w+));", code)
     return {name for first, names, name in lines for name in re.findall(r"\w+", names or name) if not first.startswith("gtfs_")}
 
 
+def handed_out(crate):
+    return names_handed_out(code_of(source(os.path.join(ROOT, "crates", crate, "src", "lib.rt"))))
+
+
 def type_of(head):
-    """The type that an `impl` is of, and whether it is that of a trait."""
+    """The type that an `impl` is of, or the whole where it has no name, and the trait, or None."""
     head = re.sub(r"^impl\s*(<(?:[^<>]|<[^<>]*>)*>)?", "", head).strip()
-    *traits, named = re.split(r"\bfor\b", head, maxsplit=1)
-    return re.search(r"(?<!')\b[A-Z]\w*", named)[0], bool(traits)
+    parts = re.split(r"\bfor\b", head, maxsplit=1)
+    *traits, named = [(re.search(r"(?<!')\b[A-Z]\w*", part) or [part.strip()])[0] for part in parts]
+    return named, traits[0] if traits else None
 
 
 def clauses_of_members(item, of, is_trait, imports):
