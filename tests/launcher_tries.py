@@ -213,6 +213,7 @@ def pipe_test(path, why=None):
 @ready
 def test_killed(clone):
     for tool in ("rm", "mv"):
+        touch(clone.path(FIELD), 1)
         clone.put_tool(tool, "#!/bin/sh\nkill -KILL $PPID\n")
         clone.call(*WORDS)
         want(set(os.listdir(clone.path("out"))) <= {"dist-state"}, f"out/ has {os.listdir(clone.path('out'))}")
