@@ -15,7 +15,7 @@ from program import LIMIT, want
 
 POISON = "#!/bin/sh\necho poison\n"
 BASH = "/bin/bash"
-LIMITED = ["-c", 'ulimit -v "$0" && exec "$@"']
+LIMITED = 'ulimit "$0" "$1" && shift && exec "$@"'
 
 # What the launcher calls: programs, commands of bash, and functions of its own.
 CALLED = """readlink uname find sort sha256sum rm mkdir cd exec exit source printf echo export mapfile set shopt trap local return
@@ -64,13 +64,15 @@ def test_little_memory(clone):
     least = least_memory()
     sizes = [*range(least - 40, least + 640, 4), *range(least + 640, least + 16_384, 512)]
     told = {"cannot be compared": 0, DIFFERS: 0}
-    for size in sizes:
-        ran = clone.call(*LIMITED, str(size), clone.launcher, *WORDS, command="/bin/sh", has_rt=False)
-        want(ran.stdout == "" and ran.returncode not in (0, 7) and ran.stderr != "", f"with {size} KiB: {ran}")
+    for option, size in (*(("-v", size) for size in sizes), *(("-n", size) for size in range(4, 20)), ("-f", 0)):
+        ran = clone.call("-c", LIMITED, option, str(size), clone.launcher, *WORDS, command="/bin/sh", has_rt=False)
+        want(ran.stdout == "" and ran.returncode not in (0, 7) and ran.stderr != "", f"with {option} {size}: {ran}")
         for words in told:
             told[words] += ran.returncode == 125 and words in ran.stderr
     want(min(told.values()) > 0, f"of {len(sizes)} sizes: {told}")
-    return f"with {sizes[0]} to {sizes[-1]} KiB of memory, {len(sizes)} sizes, no program runs that differs"
+    # (nor has one of these calls kept that they are equal)
+    want(DIFFERS in want_none(clone, *WORDS, lines=2, has_rt=False), "it says something else")
+    return f"with {sizes[0]} to {sizes[-1]} KiB of memory, {len(sizes)} sizes, or with 4 to 19 open files, no program runs that differs"
 
 
 @ready
@@ -143,8 +145,8 @@ def test_environment(clone):
 
 @ready
 def test_passed_on(clone):
-    given = {"BASH_FUNC_find%%": "() { :; }", "BASH_ENV": "/none", "ENV": "/none", "CDPATH": "/", "GLOBIGNORE": "*", "OWN": "a\nb", "A-b": "c",
-             "POSIXLY_CORRECT": "1", "LC_ALL": "C", "TMOUT": "9", "GLIBC_TUNABLES": "glibc.malloc.check=0"}
+    given = {"BASH_FUNC_find%%": "() { :; }", "BASH_ENV": "/none", "ENV": "/none", "CDPATH": "/", "GLOBIGNORE": "*", "OWN": "a\nb",
+             "A-b": "c", "POSIXLY_CORRECT": "1", "LC_ALL": "C", "TMOUT": "9", "GLIBC_TUNABLES": "glibc.malloc.check=0"}
     # (bash has values of its own for these)
     changed = {"SHELLOPTS": "xtrace", "BASHOPTS": "failglob", "IFS": "x"}
     clone.make_ready(f"#!{sys.executable}\nimport os\nprint(dict(os.environ))\n")
