@@ -120,6 +120,7 @@ def settings_of(clone):
         yield {name: value}
     for name in CALLED:
         yield {f"BASH_FUNC_{name}%%": "() { echo equal; exit 0; }"}
+    yield {"SHELLOPTS": "privileged", **{f"BASH_FUNC_{name}%%": "() { echo equal; exit 0; }" for name in CALLED}}
 
 
 @ready
@@ -147,13 +148,14 @@ def test_environment(clone):
 def test_passed_on(clone):
     given = {"BASH_FUNC_find%%": "() { :; }", "BASH_ENV": "/none", "ENV": "/none", "CDPATH": "/", "GLOBIGNORE": "*", "OWN": "a\nb",
              "A-b": "c", "POSIXLY_CORRECT": "1", "LC_ALL": "C", "TMOUT": "9", "GLIBC_TUNABLES": "glibc.malloc.check=0"}
-    # (bash has values of its own for these)
-    changed = {"SHELLOPTS": "xtrace", "BASHOPTS": "failglob", "IFS": "x"}
+    # (bash has values of its own for these, and what it is told in SHELLOPTS is for itself)
+    changed = {"BASHOPTS": "failglob", "IFS": "x"}
     clone.make_ready(f"#!{sys.executable}\nimport os\nprint(dict(os.environ))\n")
     for _ in range(2):
-        ran = clone.call(**given, **changed)
+        ran = clone.call(**given, **changed, SHELLOPTS="xtrace")
         held = ast.literal_eval(ran.stdout)
         want({name: held.get(name) for name in given} == given and set(changed) <= set(held), f"the program is told {held}")
+        want("SHELLOPTS" not in held, f"the program is told {held}")
         want(ran.stderr == "", f"err {ran.stderr}")
     return "the program gets the variables of its caller as they are, but for those of bash"
 
