@@ -4,6 +4,7 @@ not compared with the digests, or that differs from them, must not run.
 import ast
 import os
 import resource
+import shutil
 import signal
 import subprocess
 import sys
@@ -11,7 +12,9 @@ import time
 
 from clones import WORDS, touch, wait_a_moment, write
 from launching import DIFFERS, FIELD, counted, edit_field, ready, want_build, want_built, want_ready, want_run
+from preload import make_shim
 from program import LIMIT, want
+from rooms import Skipped
 
 POISON = "#!/bin/sh\necho poison\n"
 BASH = "/bin/bash"
@@ -73,6 +76,34 @@ def test_little_memory(clone):
     # (nor has one of these calls kept that they are equal)
     want(DIFFERS in want_none(clone, *WORDS, lines=2, has_rt=False), "it says something else")
     return f"with {sizes[0]} to {sizes[-1]} KiB of memory, {len(sizes)} sizes, or with 4 to 19 open files, no program runs that differs"
+
+
+@ready
+def test_refused_forks(clone):
+    if not shutil.which(os.environ.get("CC", "cc")):
+        raise Skipped("there is no C compiler")
+    forks = os.path.join(clone.room, "forks")
+    preloaded = {"LD_PRELOAD": make_shim(clone.room, "refused-forks"), "FORKS": forks}
+    count = 0
+    for is_poisoned in (False, True):
+        if is_poisoned:
+            want_ready(clone)
+            poison(clone)
+        for behind in ({}, {"ALL": "1"}):
+            number, is_reached = 1, True
+            while is_reached:
+                if not is_poisoned:
+                    touch(clone.path(FIELD), 1)
+                ran = clone.call(*WORDS, has_rt=False, REFUSED=str(number), **behind, **preloaded)
+                is_reached = os.path.getsize(forks) >= number
+                os.remove(forks)
+                if is_poisoned or ran.returncode != 7:
+                    want((ran.stdout, ran.returncode) == ("", 125) and ran.stderr != "", f"without fork {number}: {ran}")
+                else:
+                    want_run(clone, "ready", ran)
+                number, count = number + 1, count + 1
+    want(count > 30, f"{count} forks")
+    return f"where a fork is refused, one after the other and with all behind it, {count} times, no program runs that differs"
 
 
 @ready
@@ -154,10 +185,11 @@ def test_passed_on(clone):
     for _ in range(2):
         ran = clone.call(**given, **changed, SHELLOPTS="xtrace")
         held = ast.literal_eval(ran.stdout)
-        want({name: held.get(name) for name in given} == given and set(changed) <= set(held), f"the program is told {held}")
-        want("SHELLOPTS" not in held, f"the program is told {held}")
+        want({name: held.get(name) for name in given} == given, f"the program is told {held}")
+        names = set(held) - {"PWD", "OLDPWD", "SHLVL", "_"}
+        want(names == {*given, *changed, "PATH", "RT_NOTES", "RT_JOBS", "TMPDIR"}, f"the program is told {held}")
         want(ran.stderr == "", f"err {ran.stderr}")
-    return "the program gets the variables of its caller as they are, but for those of bash"
+    return "the program gets the variables of its caller as they are, but for those of bash, and no other"
 
 
 @ready
@@ -273,6 +305,7 @@ def test_unfit_build(clone):
 MISSING = "dist/gtfs-x86_64-linux or dist/digests is missing or cannot be used"
 TRIES = [
     test_little_memory,
+    test_refused_forks,
     test_failing_tools,
     test_lost_folder,
     test_environment,
