@@ -126,7 +126,8 @@ class Clone:
 
     def digests(self):
         """What dist/digests has to say of this clone, but for its first line."""
-        paths = ["crates.txt", *sorted(f"crates/{crate}/src/lib.rt" for crate in BELOW), "dist/gtfs-x86_64-linux"]
+        sources = sorted(f"crates/{crate}/src/lib.rt" for crate in BELOW)
+        paths = ["crates.txt", *sources, "dist/gtfs-x86_64-linux", "dist/tunables"]
         lines = []
         for path in paths:
             with open(self.path(path), "rb") as file:
@@ -135,7 +136,11 @@ class Clone:
 
     def call(self, *words, **how):
         with self.start(*words, **how) as started:
-            out, err = started.communicate(timeout=LIMIT)
+            try:
+                out, err = started.communicate(timeout=LIMIT)
+            except subprocess.TimeoutExpired:
+                os.killpg(started.pid, signal.SIGKILL)
+                raise
         return subprocess.CompletedProcess(words, started.returncode, out, err)
 
     def build(self, *words, **how):
