@@ -51,7 +51,7 @@ def make_zone(random, near):
     if random.random() < 0.45:
         rule, standard = random.choice(RULES)
         return zone_file([standard], [], rule)
-    offsets = random.choice([random.sample(OFFSETS, random.randint(2, 4)), random.choice(LEAPS)])
+    offsets = random.choice(LEAPS) if random.random() < 0.7 else random.sample(OFFSETS, random.randint(2, 4))
     furthest = random.choice([1, 1, 2, 20])
     instants = sorted(near + random.randint(-furthest, furthest) * 86_400 + random.randint(0, 86_399) for _ in offsets[1:])
     spread = [at + 3 * 86_400 * place for place, at in enumerate(instants)]
