@@ -2,6 +2,7 @@
 import copy
 import datetime
 import os
+from dataclasses import replace
 from random import Random
 
 from boards import Key, departures
@@ -51,7 +52,7 @@ ODD_ZONES = ["zones/bad", "zones/bad", "zones/bad", "zones/bad", "none", "zones"
 ODD_REQUESTS = ["latin", "latin", "none", "f", "f/", "z/", "", "requests/", "requests/r", "no/r", "r\t"]
 
 # How long a span is, in seconds, for most draws.
-LENGTHS = [0, 1, 3600, *(days * DAY for days in range(1, 8))]
+LENGTHS = [0, 1, 3600, *(days * DAY for days in range(1, 8)), 40 * DAY]
 
 
 def near(random, made):
@@ -86,6 +87,19 @@ def odd_key(random):
     return random.choice(ODD_KEYS)
 
 
+def beside(random, key):
+    """A key of which one part is another one, next to that of a departure or far from it."""
+    part = random.choice(["instant", "trip", "run", "sequence", "sequence", "date"])
+    others = {
+        "instant": [key.instant - 1, key.instant + 1],
+        "trip": ["", key.trip[:-1], key.trip + "/", key.trip + "0", key.trip.lower(), "T11", "Z"],
+        "run": [0, max(0, key.run - 1), min(3_599_999, key.run + 1), 3_599_999],
+        "sequence": [0, max(0, key.sequence - 1), min(2_147_483_647, key.sequence + 1), 2_147_483_647],
+        "date": [FIRST_SERVICE_DAY, key.date - datetime.timedelta(1), key.date + datetime.timedelta(1), LAST_SERVICE_DAY],
+    }
+    return replace(key, **{part: random.choice(others[part])})
+
+
 def key_near(random, zone, stop, begin):
     """The key of a departure of the board with its times filled in, or one beside it."""
     try:
@@ -96,8 +110,8 @@ def key_near(random, zone, stop, begin):
     if random.random() < 0.1:
         return odd_key(random)
     key = random.choice(keys) if keys else Key(random.randint(-5, 10**10), "T1", 28800, 2, LAST_SERVICE_DAY)
-    sequence = max(0, key.sequence + random.choice([0, 0, 0, 1, -1]))
-    return f"@{key.instant}/{key.trip}/{key.run}/{sequence}/{date_text(key.date)}"
+    key = beside(random, key) if random.random() < 0.5 else key
+    return f"@{key.instant}/{key.trip}/{key.run}/{key.sequence}/{date_text(key.date)}"
 
 
 def one_of(random, ids, unknown):

@@ -180,7 +180,9 @@ def day_more(random, feed):
 
 
 # Changes of a feed of which another one is a copy; it mostly still passes.
-DIFFERENCES = [*[odd_value] * 3, other_value, row_less, times_less, week_emptied, *[trip_later, name_changed, day_more] * 3]
+DIFFERENCES = [
+    *[odd_value] * 3, other_value, row_less, times_less, week_emptied, period_moved, *[trip_later, name_changed, day_more] * 3,
+]
 
 
 def stop_called_anew(random, feed):

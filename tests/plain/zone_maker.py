@@ -15,6 +15,16 @@ RULES = [
 ]
 
 
+# Offsets of zones whose clocks change once and again.
+OFFSETS = [-36000, -18000, -3600, 0, 3600, 7200, 19800, 20700, 50400, 37800]
+
+# Offsets a day and more from each other: a date is skipped or comes twice, or a service day begins before the day before it.
+LEAPS = [
+    [-36000, 50400], [-43200, 43200], [-39600, 46800], [-50400, 50400], [-43200, 57600], [-72000, 72000], [50400, -36000],
+    [72000, -72000], [-86399, 86340, 0],
+]
+
+
 def header(times, types, names):
     return struct.pack(">4sc15x6l", b"TZif", b"2", 0, 0, 0, times, types, names)
 
@@ -38,11 +48,12 @@ def named(offset):
 
 def make_zone(random, near):
     """A zone file, with transitions near the instant if it has some."""
-    if random.random() < 0.6:
+    if random.random() < 0.45:
         rule, standard = random.choice(RULES)
         return zone_file([standard], [], rule)
-    offsets = random.sample([-36000, -18000, -3600, 0, 3600, 7200, 19800, 20700, 50400, 37800], random.randint(2, 4))
-    instants = sorted(near + random.randint(-20, 20) * 86_400 + random.randint(0, 86_399) for _ in offsets[1:])
+    offsets = random.choice(LEAPS) if random.random() < 0.7 else random.sample(OFFSETS, random.randint(2, 4))
+    furthest = random.choice([1, 1, 2, 20])
+    instants = sorted(near + random.randint(-furthest, furthest) * 86_400 + random.randint(0, 86_399) for _ in offsets[1:])
     spread = [at + 3 * 86_400 * place for place, at in enumerate(instants)]
     transitions = list(zip(spread, range(1, len(offsets))))
     last = named(offsets[-1])

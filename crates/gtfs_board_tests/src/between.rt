@@ -4,9 +4,9 @@ use crate::cases::{Case, FIRST_OF_APRIL, ONE_LINE, SMALL};
 use gtfs_board::{Span, Times};
 use gtfs_fixtures::FileText;
 
-/// Two stop times without a time between 08:00:00 and 08:10:01, 601 seconds in three parts:
-/// 200 and 400 seconds after the first.
-pub(crate) const GAP: &[FileText] = &[GAP_ROWS];
+// Two stop times without a time between 08:00:00 and 08:10:01, 601 seconds in three parts:
+// 200 and 400 seconds after the first.
+const GAP: &[FileText] = &[GAP_ROWS];
 
 const GAP_ROWS: FileText = (
     "stop_times.txt",
@@ -14,8 +14,8 @@ const GAP_ROWS: FileText = (
 T1,08:00:00,08:00:00,S1,1\nT1,,,S3,2\nT1,,,S1,5\nT1,08:10:01,08:10:01,S2,9\n",
 );
 
-/// The same trip, with one run at 06:00:00 whose times are not exact.
-pub(crate) const GAP_OF_A_RUN: &[FileText] = &[
+// The same trip, with one run at 06:00:00 whose times are not exact.
+const GAP_OF_A_RUN: &[FileText] = &[
     GAP_ROWS,
     (
         "frequencies.txt",
@@ -23,9 +23,9 @@ pub(crate) const GAP_OF_A_RUN: &[FileText] = &[
     ),
 ];
 
-/// Two trips of one list of stops:
-/// the second leaves the first stop later and the next one earlier, where the first has no time.
-pub(crate) const CROSSING: &[FileText] = &[
+// Two trips of one list of stops:
+// the second leaves the first stop later and the next one earlier, where the first has no time.
+const CROSSING: &[FileText] = &[
     (
         "trips.txt",
         "route_id,service_id,trip_id\nR1,C1,T1\nR1,C1,T2\n",
@@ -38,9 +38,9 @@ T2,08:10:00,08:10:00,S2,1\nT2,08:12:00,08:12:00,S1,2\nT2,08:20:00,08:20:00,S3,3\
     ),
 ];
 
-/// A trip from 08:00:00, where it takes no riders, to 08:09:00, with two stop times between,
-/// of which one takes riders.
-pub(crate) const WITHOUT_PICK_UP: &[FileText] = &[(
+// A trip from 08:00:00, where it takes no riders, to 08:09:00, with two stop times between,
+// of which one takes riders.
+const WITHOUT_PICK_UP: &[FileText] = &[(
     "stop_times.txt",
     "trip_id,arrival_time,departure_time,stop_id,stop_sequence,pickup_type\n\
 T1,08:00:00,08:00:00,S1,1,1\nT1,,,S1,2,\nT1,,,S1,3,1\nT1,08:09:00,08:09:00,S2,4,\n",
@@ -51,16 +51,6 @@ const FARTHEST_ROWS: FileText = (
     "trip_id,arrival_time,departure_time,stop_id,stop_sequence\n\
 T1,00:00:00,00:00:00,S2,1\nT1,,,S1,2\nT1,999:59:59,999:59:59,S2,3\n",
 );
-
-/// A trip from the first time that there is to the last one,
-/// with one run at the last second at which one may start.
-pub(crate) const FARTHEST_OF_A_RUN: &[FileText] = &[
-    FARTHEST_ROWS,
-    (
-        "frequencies.txt",
-        "trip_id,start_time,end_time,headway_secs,exact_times\nT1,999:59:58,999:59:59,1,0\n",
-    ),
-];
 
 const FILLED: Case = Case {
     what: "two stop times between timepoints",

@@ -64,19 +64,35 @@ impl Bounds {
         taken.saturating_add(self.lanes.saturating_mul(self.reach(next)))
     }
 
-    /// So many may wait, and at least one where a departure is left.
-    pub(crate) fn assert_held(&self, rt: &impl Abort, held: u64) {
-        assert_holds(rt, held > 0, "none waits");
-        assert_holds(rt, held <= self.most_held(), format_args!("{held} wait"));
+    /// Before the departure at an instant, after so many were taken, as many wait as may, and at
+    /// least one; as many steps were made as may have been, and one for each that was taken.
+    pub(crate) fn assert_next(
+        &self,
+        rt: &impl Abort,
+        (held, steps): (u64, u64),
+        taken: u64,
+        next: i64,
+    ) {
+        let is_kept = 0 < held && held <= self.most_held() && self.are_kept(steps, taken, next);
+        let what = format_args!("{held} wait, {steps} steps for {taken} departures");
+        assert_holds(rt, is_kept, what);
     }
 
-    /// So many steps may have been made before the departure at an instant, after so many were
-    /// taken, and each of these cost one.
-    pub(crate) fn assert_steps(&self, rt: &impl Abort, steps: u64, taken: u64, next: i64) {
-        let what = format_args!("{steps} steps for {taken} departures");
-        assert_holds(rt, taken <= steps, what);
-        let most = self.most_steps(taken, next);
-        assert_holds(rt, steps <= most, format_args!("{steps} steps"));
+    /// Where no departure is left of a board until an instant, none waits.
+    pub(crate) fn assert_end(
+        &self,
+        rt: &impl Abort,
+        (held, steps): (u64, u64),
+        taken: u64,
+        until: i64,
+    ) {
+        let is_kept = held == 0 && self.are_kept(steps, taken, until.saturating_sub(1));
+        let what = format_args!("{held} wait, {steps} steps for {taken} departures and no more");
+        assert_holds(rt, is_kept, what);
+    }
+
+    fn are_kept(&self, steps: u64, taken: u64, next: i64) -> bool {
+        taken <= steps && steps <= self.most_steps(taken, next)
     }
 
     // How many service days can hold an event from the start until an instant: those whose midnight

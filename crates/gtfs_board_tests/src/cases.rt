@@ -55,8 +55,8 @@ pub(crate) const SMALL: Case = Case {
 pub(crate) const ONE_LINE: &str =
     "@1711958400/T1/28800/1/20240401\t2024-04-01 08:00:00+00:00\tS1\t10\t\ts\n";
 
-/// Of the small dataset itself.
-pub(crate) const PLAIN: &[Case] = &[
+// Of the small dataset itself.
+const PLAIN: &[Case] = &[
     SMALL,
     Case {
         what: "a stop without a trip",
@@ -112,8 +112,8 @@ pub(crate) const PLAIN: &[Case] = &[
     },
 ];
 
-/// Of days on which clocks change.
-pub(crate) const CHANGING: &[Case] = &[
+// Of days on which clocks change.
+const CHANGING: &[Case] = &[
     Case {
         what: "a day that begins before midnight",
         files: &[
@@ -223,8 +223,8 @@ const BACK: Case = Case {
     ..SMALL
 };
 
-/// Of trips past midnight.
-pub(crate) const LATE: &[Case] = &[
+// Of trips past midnight.
+const LATE: &[Case] = &[
     PAST_MIDNIGHT,
     Case {
         what: "above the trip of the day before",
@@ -310,8 +310,8 @@ pub(crate) const PERIODS: Case = Case {
     ..SMALL
 };
 
-/// Of frequencies, stop times and stations.
-pub(crate) const OTHERS: &[Case] = &[
+// Of frequencies, stop times and stations.
+const OTHERS: &[Case] = &[
     PERIODS,
     Case {
         what: "above the second of four runs",

@@ -1,10 +1,11 @@
 //! The texts of keys, their order, and boards opened above keys that no departure has.
 
-use crate::assertions::{assert_holds, assert_is, assert_text};
-use crate::cases::{FIRST_OF_APRIL, SMALL};
-use crate::opening::{Fixture, Opening};
-use gtfs_board::{Key, push_key, read_key};
+use crate::assertions::{assert_holds, assert_is};
+use crate::cases::{FIRST_OF_APRIL, ONE_LINE};
+use crate::opening::Fixture;
+use gtfs_board::{Key, Times, push_key, read_key};
 use gtfs_field::{Day, FieldFault};
+use gtfs_fixtures::Clocks;
 use std::alloc::Global;
 use std::cmp::Ordering;
 use std::process::Abort;
@@ -12,15 +13,16 @@ use std::test::Fail;
 
 #[test]
 fn a_key_is_cut_at_its_first_slash_and_its_last_three(rt: HostRuntime) {
+    let wanted = Key {
+        instant: 1_711_837_800,
+        trip: "A/1/2",
+        run: 1_800,
+        seq: 5,
+        // 2024-03-31
+        day: Day::from_number(19_813),
+    };
     match read_key("@1711837800/A/1/2/1800/5/20240331") {
-        Ok(key) => {
-            assert_is(&rt, key.instant, 1_711_837_800, "instant");
-            assert_is(&rt, key.trip, "A/1/2", "trip");
-            assert_is(&rt, key.run, 1_800, "run");
-            assert_is(&rt, key.seq, 5, "seq");
-            // 2024-03-31
-            assert_is(&rt, key.day, Day::from_number(19_813), "day");
-        }
+        Ok(key) => assert_holds(&rt, key == wanted, key.trip),
         Err(fault) => panic!(rt; "{fault}"),
     }
 }
@@ -129,16 +131,9 @@ const ASCENDING: [&str; 12] = [
 
 // How the key of a text stands to that of another, if both are keys.
 fn order(text: &str, other: &str) -> Option<Ordering> {
-    match read_key(text) {
-        Ok(key) => order_of(&key, other),
-        Err(_) => None,
-    }
-}
-
-fn order_of(key: &Key<'_>, other: &str) -> Option<Ordering> {
-    match read_key(other) {
-        Ok(other) => Some(key.cmp(&other)),
-        Err(_) => None,
+    match (read_key(text), read_key(other)) {
+        (Ok(key), Ok(other)) => Some(key.cmp(&other)),
+        _ => None,
     }
 }
 
@@ -153,90 +148,36 @@ fn keys_stand_by_their_parts(rt: HostRuntime) {
     }
 }
 
-// The small dataset has one departure, @1711958400/T1/28800/1/20240401:
-// keys below it, and keys above.
-const BELOW: [&str; 10] = [
-    "@-999999999999/T1/28800/1/20240401",
-    "@1711958399/ZZ/28800/1/20240401",
-    "@1711958400//3599999/2147483647/99991231",
-    "@1711958400/T/28800/1/20240401",
-    "@1711958400/T0/28800/1/20240401",
-    "@1711958400/S9/28800/1/20240401",
-    "@1711958400/T1/0/2/20240402",
-    "@1711958400/T1/28799/2147483647/99991231",
-    "@1711958400/T1/28800/0/20240402",
-    "@1711958400/T1/28800/1/20240331",
-];
-
-const ABOVE: [&str; 9] = [
-    "@1711958400/T1/28800/1/20240401",
-    "@1711958400/T1/28800/1/20240402",
-    "@1711958400/T1/28800/2/19000101",
-    "@1711958400/T1/28801/0/19000101",
-    "@1711958400/T1 /0/0/19000101",
-    "@1711958400/T10/0/0/19000101",
-    "@1711958400/t1/0/0/19000101",
-    "@1711958401//0/0/19000101",
-    "@999999999999/T1/28800/1/20240401",
-];
-
-#[test]
-fn a_board_is_opened_above_any_key(rt: HostRuntime) -> Result<(), Fail> {
-    let fixture = Fixture::of_case(&rt, rt.alloc(), &SMALL)?;
-    let opening = fixture.opening("S1", FIRST_OF_APRIL);
-    for key in BELOW {
-        assert_text(&rt, opening.listed(&rt, rt.alloc(), key), SMALL.lines, key)?;
-    }
-    for key in ABOVE {
-        assert_text(&rt, opening.listed(&rt, rt.alloc(), key), "", key)?;
-    }
-    Ok(())
-}
-
-// Keys around it that no text has:
-// the instant, trip, run and sequence of those below, and of those above.
-const WIDE_BELOW: [(i64, &str, u32, u32); 4] = [
-    (i64::MIN, "T1", 28_800, 1),
-    (i64::MIN, "zz", u32::MAX, u32::MAX),
-    (1_711_958_400, "T0", u32::MAX, u32::MAX),
-    (1_711_958_400, "T1", 28_799, u32::MAX),
-];
-
-const WIDE_ABOVE: [(i64, &str, u32, u32); 4] = [
-    (1_711_958_400, "T1", 28_800, u32::MAX),
-    (1_711_958_400, "T1", u32::MAX, 0),
-    (i64::MAX, "T1", 28_800, 1),
-    (i64::MAX, "", 0, 0),
+// Keys that no text has around the one departure of the small dataset, which is
+// @1711958400/T1/28800/1/20240401: the instant, trip, run and sequence of those below,
+// and of those above.
+const WIDE: [(i64, &str, u32, u32, &str); 8] = [
+    (i64::MIN, "T1", 28_800, 1, ONE_LINE),
+    (i64::MIN, "zz", u32::MAX, u32::MAX, ONE_LINE),
+    (1_711_958_400, "T0", u32::MAX, u32::MAX, ONE_LINE),
+    (1_711_958_400, "T1", 28_799, u32::MAX, ONE_LINE),
+    (1_711_958_400, "T1", 28_800, u32::MAX, ""),
+    (1_711_958_400, "T1", u32::MAX, 0, ""),
+    (i64::MAX, "T1", 28_800, 1, ""),
+    (i64::MAX, "", 0, 0, ""),
 ];
 
 #[test]
 fn a_board_is_opened_above_keys_that_no_text_has(rt: HostRuntime) -> Result<(), Fail> {
-    let fixture = Fixture::of_case(&rt, rt.alloc(), &SMALL)?;
-    let opening = fixture.opening("S1", FIRST_OF_APRIL);
-    assert_listed_above(&rt, rt.alloc(), &opening, &WIDE_BELOW, SMALL.lines)?;
-    assert_listed_above(&rt, rt.alloc(), &opening, &WIDE_ABOVE, "")
-}
-
-// The lines above each of the keys are these.
-fn assert_listed_above(
-    rt: &impl Abort,
-    alloc: Global,
-    opening: &Opening<'_>,
-    keys: &[(i64, &str, u32, u32)],
-    wanted: &str,
-) -> Result<(), Fail> {
-    for (instant, trip, run, sequence) in keys {
+    let fixture = Fixture::of_files(&rt, rt.alloc(), &[], Clocks::Utc)?;
+    let opening = fixture.opening("S1", FIRST_OF_APRIL, Times::Given);
+    for (instant, trip, run, sequence, wanted) in WIDE {
         let key = Key {
-            instant: *instant,
+            instant,
             trip,
-            run: *run,
-            seq: *sequence,
+            run,
+            seq: sequence,
             // 2024-04-01
             day: Day::from_number(19_814),
         };
-        let lines = opening.listed_above(rt, alloc, &key)?;
+        let lines = opening.listed_above(&rt, rt.alloc(), Some(&key))?;
         let what = format_args!("{instant} {trip} {run} {sequence}");
-        assert_is(rt, lines.as_str(), wanted, what);
+        assert_is(&rt, lines.as_str(), wanted, what);
     }
     Ok(())
 }

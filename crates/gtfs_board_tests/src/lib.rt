@@ -1,21 +1,19 @@
 //! The tests of departure boards (`gtfs_board`, over feeds and lanes), in a crate of their own: a
-//! crate with tests is proved twice, with them and without. They call public functions alone.
+//! crate with tests is proved twice, with them and without. They call public functions alone, and
+//! test what the program does not show: cases over the built program and a second one beside it
+//! tell that boards, pages and timetables are the right ones.
 //!
-//! - `plain` lists a board the slow way: it unfolds every event on every day and sorts. `bounds`
-//!   has what bounds a board, and `opening` opens boards and holds them to both.
-//! - `cases` has worked boards, and `worked` compares them; `hostile` has boards of all service
-//!   days and long ones, and `against_plain` those of made feeds. `between` has worked boards with
-//!   times between timepoints, and `long_gap` a trip with 70,000 stop times without a time.
+//! - `cases` has worked boards, `between` those with times between timepoints, and `worked`
+//!   compares them. `made` has boards of made feeds, `opening` opens boards over a feed and over
+//!   its index, and `bounds` has what bounds them. `hostile` has boards of all service days.
 //! - `keys` has the texts and the order of keys, `lines` lines and sheets, `pages` pages, `outputs`
 //!   outputs that fail, and `refused` a departure for which there is no memory.
-//! - `timetables` has the timetables of routes, and `plain_sheets` lists them the slow way.
+//! - `timetables` has timetables without a sheet, and `faults` the lines of faults.
 //! - `assertions` has assertions as calls.
 //!
 //! The worked examples of sheets stand in `proofs/`, as lemmas that compute.
 #![tactic(auto)]
 
-#[cfg(test)]
-mod against_plain;
 #[cfg(test)]
 mod assertions;
 #[cfg(test)]
@@ -25,23 +23,21 @@ mod bounds;
 #[cfg(test)]
 mod cases;
 #[cfg(test)]
+mod faults;
+#[cfg(test)]
 mod hostile;
 #[cfg(test)]
 mod keys;
 #[cfg(test)]
 mod lines;
 #[cfg(test)]
-mod long_gap;
+mod made;
 #[cfg(test)]
 mod opening;
 #[cfg(test)]
 mod outputs;
 #[cfg(test)]
 mod pages;
-#[cfg(test)]
-mod plain;
-#[cfg(test)]
-mod plain_sheets;
 #[cfg(test)]
 mod refused;
 #[cfg(test)]

@@ -1,11 +1,10 @@
-//! Opens boards of a feed in a zone, and holds them to the plain list and to their bounds.
+//! Opens boards of a feed in a zone, over the feed and over its index, and holds them to what
+//! bounds them.
 
 ghost use Rattle.std.specs.Prelude.{◌<◌, length};
 
 use crate::assertions::{assert_holds, assert_is};
 use crate::bounds::Bounds;
-use crate::cases::Case;
-use crate::plain::{PlainKey, plain_keys, trip_shown};
 use gtfs_board::{Board, Key, Span, StopIndex, Times, push_line, read_key, write_page};
 use gtfs_days::Zone;
 use gtfs_feed::Feed;
@@ -41,21 +40,6 @@ impl Fixture {
         Fixture::of_feed(alloc, feed_with(rt, alloc, files)?, clocks)
     }
 
-    /// A feed in a zone.
-    pub(crate) fn of_feed(alloc: Global, feed: Feed, clocks: Clocks) -> Result<Fixture, Fail> {
-        let zone = clocks.zone(alloc)?;
-        Ok(Fixture { feed, zone })
-    }
-
-    /// Those of a worked board.
-    pub(crate) fn of_case<R: Abort + RandomSource>(
-        rt: &R,
-        alloc: Global,
-        case: &Case,
-    ) -> Result<Fixture, Fail> {
-        Fixture::of_files(rt, alloc, case.files, case.clocks)
-    }
-
     /// The made dataset of a number.
     pub(crate) fn made<R: Abort + RandomSource>(
         rt: &R,
@@ -66,20 +50,20 @@ impl Fixture {
         Fixture::of_feed(alloc, made_feed(rt, alloc, number)?, clocks)
     }
 
+    fn of_feed(alloc: Global, feed: Feed, clocks: Clocks) -> Result<Fixture, Fail> {
+        let zone = clocks.zone(alloc)?;
+        Ok(Fixture { feed, zone })
+    }
+
     /// Boards of a stop over a span.
-    pub(crate) fn opening<'a>(&'a self, stop: &'a str, span: Span) -> Opening<'a> {
+    pub(crate) fn opening<'a>(&'a self, stop: &'a str, span: Span, times: Times) -> Opening<'a> {
         Opening {
             feed: &self.feed,
             zone: &self.zone,
             stop,
             span,
-            times: Times::Given,
+            times,
         }
-    }
-
-    /// Those of a worked board, which is one of the fixture.
-    pub(crate) fn opening_of<'a>(&'a self, case: &Case) -> Opening<'a> {
-        self.opening(case.stop, case.span).under(case.times)
     }
 }
 
@@ -94,11 +78,6 @@ pub(crate) struct Opening<'a> {
 }
 
 impl<'a> Opening<'a> {
-    /// The same under other times.
-    pub(crate) fn under(self, times: Times) -> Opening<'a> {
-        Opening { times, ..self }
-    }
-
     /// The board above the key of a text, or the whole board where the text is empty.
     pub(crate) fn board(
         &self,
@@ -106,59 +85,14 @@ impl<'a> Opening<'a> {
         alloc: Global,
         after: &str,
     ) -> Result<Board<'a>, Fail> {
-        if after.is_empty() {
-            return self.board_above(alloc, None);
-        }
-        match read_key(after) {
-            Ok(key) => self.board_above(alloc, Some(&key)),
-            Err(fault) => panic!(rt; "{after}: {fault}"),
-        }
+        let key = key_of(rt, after);
+        self.board_above(alloc, key.as_ref())
     }
 
     fn board_above(&self, alloc: Global, after: Option<&Key<'_>>) -> Result<Board<'a>, Fail> {
         Ok(Board::open(
             alloc, self.feed, self.zone, self.stop, self.span, after, self.times,
         )?)
-    }
-
-    /// The lines of what is left of a board.
-    pub(crate) fn lines(
-        &self,
-        rt: &impl Abort,
-        alloc: Global,
-        board: &mut Board<'_>,
-    ) -> Result<String, Fail> {
-        let mut text = String::new(alloc);
-        for _ in 0..MOST {
-            match board.next() {
-                Ok(Some(departure)) => push_line(alloc, &mut text, self.zone, &departure)?,
-                Ok(None) => break,
-                Err(fault) => panic!(rt; "{fault}"),
-            }
-        }
-        Ok(text)
-    }
-
-    /// The lines of the board above the key of a text.
-    pub(crate) fn listed(
-        &self,
-        rt: &impl Abort,
-        alloc: Global,
-        after: &str,
-    ) -> Result<String, Fail> {
-        let mut board = self.board(rt, alloc, after)?;
-        self.lines(rt, alloc, &mut board)
-    }
-
-    /// The lines of the board above a key, which need not have a text that reads back.
-    pub(crate) fn listed_above(
-        &self,
-        rt: &impl Abort,
-        alloc: Global,
-        key: &Key<'_>,
-    ) -> Result<String, Fail> {
-        let mut board = self.board_above(alloc, Some(key))?;
-        self.lines(rt, alloc, &mut board)
     }
 
     /// A page of at most so many lines above the key of a text, and how many it tells.
@@ -170,18 +104,7 @@ impl<'a> Opening<'a> {
         limit: u64,
     ) -> Result<(u64, String), Fail> {
         let mut board = self.board(rt, alloc, after)?;
-        write(alloc, &mut board, limit)
-    }
-
-    /// The plain list.
-    pub(crate) fn plain_keys(&self, rt: &impl Abort, alloc: Global) -> Result<Vec<PlainKey>, Fail> {
-        let stop = stop_named(rt, self.feed, self.stop);
-        plain_keys(alloc, self.feed, self.zone, stop, self.span, self.times)
-    }
-
-    /// The id of the trip of a departure.
-    pub(crate) fn trip(&self, key: &PlainKey) -> &'a str {
-        trip_shown(self.feed, key.trip)
+        page(alloc, &mut board, limit)
     }
 
     /// What bounds the board above a key.
@@ -195,107 +118,89 @@ impl<'a> Opening<'a> {
         Ok(Bounds::new(alloc, self.feed, stop, self.span, after, self.times)?)
     }
 
-    /// The departures of the whole board are those of the plain list, and within its bounds.
-    pub(crate) fn assert_plain(&self, rt: &impl Abort, alloc: Global) -> Result<(), Fail> {
-        let keys = self.plain_keys(rt, alloc)?;
-        self.assert_boards(rt, alloc, None, &keys)
-    }
-
-    /// The departures above a key are those of the plain list that lie above it,
-    /// and within the bounds of the board.
-    pub(crate) fn assert_plain_above(
+    /// The lines of the board above the key of a text.
+    pub(crate) fn listed(
         &self,
         rt: &impl Abort,
         alloc: Global,
-        key: &Key<'_>,
-    ) -> Result<(), Fail> {
-        let keys = self.keys_above(rt, alloc, key)?;
-        self.assert_boards(rt, alloc, Some(key), &keys)
+        after: &str,
+    ) -> Result<String, Fail> {
+        let key = key_of(rt, after);
+        self.listed_above(rt, alloc, key.as_ref())
     }
 
-    // The board of the feed and that of an index have these departures,
-    // within the bounds of the board.
-    fn assert_boards(
+    /// The lines of the board above a key, which need not have a text that reads back:
+    /// those of the feed are those of its index, and both boards stay within their bounds.
+    pub(crate) fn listed_above(
         &self,
         rt: &impl Abort,
         alloc: Global,
         after: Option<&Key<'_>>,
-        keys: &[PlainKey],
-    ) -> Result<(), Fail> {
+    ) -> Result<String, Fail> {
         let bounds = self.bounds(rt, alloc, after)?;
         let mut board = self.board_above(alloc, after)?;
-        self.assert_rest(rt, &mut board, &bounds, keys);
-        let index = StopIndex::build(alloc, self.feed, self.times)?;
-        let mut board = self.indexed_board(alloc, &index, after)?;
-        self.assert_rest(rt, &mut board, &bounds, keys);
-        Ok(())
+        let lines = self.lines(rt, alloc, &mut board, &bounds)?;
+        let indexed = self.indexed(rt, alloc, after, &bounds)?;
+        assert_is(rt, indexed.as_str(), lines.as_str(), "over an index");
+        Ok(lines)
     }
 
-    fn indexed_board(
+    fn indexed(
         &self,
+        rt: &impl Abort,
         alloc: Global,
-        index: &StopIndex<'a>,
         after: Option<&Key<'_>>,
-    ) -> Result<Board<'a>, Fail> {
-        Ok(Board::open_indexed(alloc, index, self.zone, self.stop, self.span, after)?)
+        bounds: &Bounds,
+    ) -> Result<String, Fail> {
+        let index = StopIndex::build(alloc, self.feed, self.times)?;
+        let mut board = Board::open_indexed(alloc, &index, self.zone, self.stop, self.span, after)?;
+        self.lines(rt, alloc, &mut board, bounds)
     }
 
-    fn keys_above(
+    // The lines of all departures of a board, each taken within its bounds.
+    fn lines(
         &self,
         rt: &impl Abort,
         alloc: Global,
-        key: &Key<'_>,
-    ) -> Result<Vec<PlainKey>, Fail> {
-        let mut above = Vec::new(alloc);
-        for plain in &self.plain_keys(rt, alloc)? {
-            if plain.is_above(self.feed, key) {
-                above.push(*plain)?;
-            }
-        }
-        Ok(above)
-    }
-
-    // What is left of a board are these departures, each taken within the bounds, and no more.
-    fn assert_rest(
-        &self,
-        rt: &impl Abort,
         board: &mut Board<'_>,
         bounds: &Bounds,
-        keys: &[PlainKey],
-    ) {
-        let mut taken = 0u64;
-        for key in keys {
-            bounds.assert_held(rt, board.held() as u64);
-            bounds.assert_steps(rt, board.steps(), taken, key.instant);
-            self.assert_next(rt, board, key);
-            taken = taken.saturating_add(1);
-        }
-        bounds.assert_steps(rt, board.steps(), taken, self.span.until.saturating_sub(1));
-        assert_is(rt, board.held(), 0, "none waits");
-        assert_none(rt, board);
-    }
-
-    // The next departure of a board is this one.
-    fn assert_next(&self, rt: &impl Abort, board: &mut Board<'_>, key: &PlainKey) {
-        match board.next() {
-            Ok(Some(departure)) => {
-                let is_next = key.is_of(self.feed, &departure);
-                assert_holds(rt, is_next, format_args!("{key:?}"));
+    ) -> Result<String, Fail> {
+        let mut text = String::new(alloc);
+        for taken in 0..MOST {
+            let (held, steps) = (board.held() as u64, board.steps());
+            match board.next() {
+                Ok(Some(departure)) => {
+                    bounds.assert_next(rt, (held, steps), taken, departure.key.instant);
+                    push_line(alloc, &mut text, self.zone, &departure)?;
+                }
+                Ok(None) => {
+                    bounds.assert_end(rt, (held, steps), taken, self.span.until);
+                    break;
+                }
+                Err(fault) => panic!(rt; "{fault}"),
             }
-            Ok(None) => panic!(rt; "{key:?} is left out"),
-            Err(fault) => panic!(rt; "{fault}"),
         }
+        assert_none(rt, board);
+        Ok(text)
     }
 }
 
 /// Nothing is left of a board.
 pub(crate) fn assert_none(rt: &impl Abort, board: &mut Board<'_>) {
     for _ in 0..2 {
-        match board.next() {
-            Ok(None) => {}
-            Ok(Some(departure)) => panic!(rt; "{} is left", departure.key.instant),
-            Err(fault) => panic!(rt; "{fault}"),
-        }
+        let is_none = matches!(board.next(), Ok(None));
+        assert_holds(rt, is_none, "a departure is left");
+    }
+}
+
+// The key of a text, or none where the text is empty.
+fn key_of<'t>(rt: &impl Abort, text: &'t str) -> Option<Key<'t>> {
+    if text.is_empty() {
+        return None;
+    }
+    match read_key(text) {
+        Ok(key) => Some(key),
+        Err(fault) => panic!(rt; "{text}: {fault}"),
     }
 }
 
@@ -310,8 +215,12 @@ fn stop_named(rt: &impl Abort, feed: &Feed, id: &str) -> StopNo
     stop
 }
 
-// A page of what is left of a board.
-fn write(alloc: Global, board: &mut Board<'_>, limit: u64) -> Result<(u64, String), Fail> {
+/// A page of what is left of a board, and how many lines it tells.
+pub(crate) fn page(
+    alloc: Global,
+    board: &mut Board<'_>,
+    limit: u64,
+) -> Result<(u64, String), Fail> {
     let mut out = MemoryOut::new(alloc, ROOM)?;
     let count = write_page(alloc, board, limit, &mut out)?;
     let text = String::from_str(alloc, str::from_utf8(out.bytes())?)?;

@@ -2,7 +2,7 @@
 
 use crate::assertions::{assert_holds, assert_is};
 use crate::opening::{Fixture, assert_none};
-use gtfs_board::{Board, Span};
+use gtfs_board::{Board, Span, Times};
 use gtfs_field::OutOfMemory;
 use gtfs_fixtures::{Clocks, FileText};
 use std::alloc::Global;
@@ -90,7 +90,8 @@ fn instant_of(board: &mut Board<'_>) -> Result<Option<i64>, OutOfMemory> {
 #[test]
 fn a_refused_departure_can_be_asked_for_again(rt: HostRuntime) -> Result<(), Fail> {
     let fixture = Fixture::of_files(&rt, rt.alloc(), EIGHT_DAYS, Clocks::Utc)?;
-    let mut board = fixture.opening("S1", SPAN).board(&rt, rt.alloc(), "")?;
+    let opening = fixture.opening("S1", SPAN, Times::Given);
+    let mut board = opening.board(&rt, rt.alloc(), "")?;
     let mut counts = Counts {
         without_memory: 0,
         refused: 0,

@@ -1,9 +1,8 @@
 //! Agencies, of which those without an id get a name where they are not joined.
 
-use crate::cases::{Case, assert_cases};
+use crate::cases::{Case, MERGED};
 use gtfs_fixtures::FileText;
 use gtfs_table::File;
-use std::test::Fail;
 
 // The agency of the small dataset with an id.
 const NAMED: FileText = (
@@ -11,7 +10,8 @@ const NAMED: FileText = (
     "agency_id,agency_name,agency_url,agency_timezone\nM,Metro,http://m.example,UTC\n",
 );
 
-const CASES: &[Case] = &[
+/// Agencies without an id are joined or get a name.
+pub(crate) const CASES: &[Case] = &[
     Case {
         what: "an empty id in A alone",
         a: &[],
@@ -28,6 +28,7 @@ joined agency 0\njoined stop 3\njoined route 0\njoined service 1\njoined trip 0\
                 "R1,agency_merged_1,10,,,3,,FFFFFF,000000,\nR1_merged_1,M,10,,,3,,FFFFFF,000000,\n",
             ),
         ],
+        ..MERGED
     },
     Case {
         what: "an empty id in B alone",
@@ -45,6 +46,7 @@ joined agency 0\njoined stop 3\njoined route 0\njoined service 1\njoined trip 0\
                 "R1,M,10,,,3,,FFFFFF,000000,\nR1_merged_1,agency_merged_1,10,,,3,,FFFFFF,000000,\n",
             ),
         ],
+        ..MERGED
     },
     Case {
         what: "an empty id in A, and an agency of B with its first name",
@@ -73,6 +75,7 @@ agency_merged_2,Metro,http://m.example,UTC,,,,\n",
                 "R1,agency_merged_2,10,,,3,,FFFFFF,000000,\nR1_merged_1,M,10,,,3,,FFFFFF,000000,\n",
             ),
         ],
+        ..MERGED
     },
     Case {
         what: "one id, and a phone in B alone",
@@ -88,6 +91,7 @@ joined agency 0\njoined stop 3\njoined route 0\njoined service 1\njoined trip 0\
             File::Agency,
             "M,Metro,http://m.example,UTC,,,,\nM_merged_1,Metro,http://m.example,UTC,,+1 2,,\n",
         )],
+        ..MERGED
     },
     Case {
         what: "a route that names the only agency, and one that leaves it out",
@@ -101,10 +105,6 @@ joined agency 0\njoined stop 3\njoined route 0\njoined service 1\njoined trip 0\
         ],
         report: "joined agency 1\njoined stop 3\njoined route 1\njoined service 1\njoined trip 1\n",
         written: &[(File::Routes, "R1,M,10,,,3,,FFFFFF,000000,\n")],
+        ..MERGED
     },
 ];
-
-#[test]
-fn agencies_without_an_id_are_joined_or_get_a_name(rt: HostRuntime) -> Result<(), Fail> {
-    assert_cases(&rt, rt.alloc(), CASES)
-}

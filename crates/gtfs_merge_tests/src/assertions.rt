@@ -2,6 +2,7 @@
 
 use std::fmt::{Debug, Display};
 use std::process::Abort;
+use std::test::Fail;
 
 /// Holds a value that was found to what is wanted of it.
 pub(crate) fn assert_is<T: Copy + PartialEq + Debug>(
@@ -11,4 +12,16 @@ pub(crate) fn assert_is<T: Copy + PartialEq + Debug>(
     what: impl Display + Drop,
 ) {
     assert_eq!(rt; found, wanted, "{what}");
+}
+
+/// Holds a text to what is wanted of it, if it was made.
+pub(crate) fn assert_text(
+    rt: &impl Abort,
+    found: Result<String, Fail>,
+    wanted: &str,
+    what: &str,
+) -> Result<(), Fail> {
+    let found = found?;
+    assert_is(rt, found.as_str(), wanted, what);
+    Ok(())
 }

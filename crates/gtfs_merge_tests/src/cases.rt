@@ -2,31 +2,45 @@
 ghost use Rattle.std.specs.Prelude.{◌≡◌, ◌≤◌, IfSome, true};
 ghost use Rattle.gtfs_days.specs.Service.{is_service_day};
 
-use crate::assertions::assert_is;
-use crate::report::report;
+use crate::assertions::assert_text;
+use crate::report::{pairs, report};
 use crate::written::{Rows, assert_rows, assert_same_files, folders_with};
 use gtfs_days::LAST_SERVICE_DAY;
 use gtfs_feed::Feed;
 use gtfs_field::{Day, read_date};
 use gtfs_fixtures::{FileText, feed_with, read_feed};
-use gtfs_merge::{Merged, Options, merge};
+use gtfs_merge::{Merged, Names, Options, merge, merge_owned};
 use std::alloc::Global;
 use std::hash::RandomState;
 use std::process::Abort;
 use std::random::RandomSource;
 use std::test::Fail;
 
-/// Two changes to the small dataset, and what their merge gives.
+/// Two changes to the small dataset, what their merge is asked for, and what it gives.
 #[derive(Clone, Copy)]
 pub(crate) struct Case {
     pub(crate) what: &'static str,
     pub(crate) a: &'static [FileText],
     pub(crate) b: &'static [FileText],
+    pub(crate) asked: Asked,
     /// The ids that became others, and how many are joined.
     pub(crate) report: &'static str,
+    /// The near stops of B, each with that of A.
+    pub(crate) pairs: &'static str,
     /// What some of the files of the merged feed have.
     pub(crate) written: &'static [Rows],
 }
+
+/// A merge of the small dataset with itself that is asked for nothing.
+pub(crate) const MERGED: Case = Case {
+    what: "",
+    a: &[],
+    b: &[],
+    asked: PLAIN,
+    report: "",
+    pairs: "",
+    written: &[],
+};
 
 /// The small dataset at other times: at ten.
 pub(crate) const AT_TEN: FileText = (
@@ -34,21 +48,6 @@ pub(crate) const AT_TEN: FileText = (
     "trip_id,arrival_time,departure_time,stop_id,stop_sequence\n\
 T1,10:00:00,10:00:00,S1,1\nT1,10:10:00,10:10:00,S2,2\n",
 );
-
-/// The merge of two feeds, with files of any length.
-pub(crate) fn merged_of<R: RandomSource>(
-    rt: &R,
-    alloc: Global,
-    a: &Feed,
-    b: &Feed,
-) -> Result<Merged, Fail> {
-    let options = Options {
-        file_limit: u64::MAX,
-        near: None,
-        cutoff: None,
-    };
-    Ok(merge(alloc, RandomState::new(rt)?, a, b, &options)?)
-}
 
 /// What a merge is asked for: up to how many millionths of a degree stops are near, and the date
 /// from which on the second feed is taken.
@@ -97,8 +96,8 @@ fn at_most(near: Option<u32>) -> Option<u32>
     }
 }
 
-/// The service day of a date, if there is one.
-pub(crate) fn cutoff_of(rt: &impl Abort, date: Option<&str>) -> Option<Day>
+// The service day of a date, if there is one.
+fn cutoff_of(rt: &impl Abort, date: Option<&str>) -> Option<Day>
     ensures { IfSome result (λ d. is_service_day d ≡ true) }
 {
     match date {
@@ -107,8 +106,8 @@ pub(crate) fn cutoff_of(rt: &impl Abort, date: Option<&str>) -> Option<Day>
     }
 }
 
-/// The service day of a date.
-pub(crate) fn service_day(rt: &impl Abort, date: &str) -> Day
+// The service day of a date.
+fn service_day(rt: &impl Abort, date: &str) -> Day
     ensures { is_service_day result ≡ true }
 {
     let Ok(day) = read_date(date) else {
@@ -118,76 +117,51 @@ pub(crate) fn service_day(rt: &impl Abort, date: &str) -> Day
     day
 }
 
-/// Each of the merges gives what is wanted.
-pub(crate) fn assert_cases<R: Abort + RandomSource>(
-    rt: &R,
-    alloc: Global,
-    cases: &[Case],
-) -> Result<(), Fail> {
-    for case in cases {
-        assert_case(rt, alloc, case)?;
-    }
-    Ok(())
-}
-
-fn assert_case<R: Abort + RandomSource>(rt: &R, alloc: Global, case: &Case) -> Result<(), Fail> {
-    let a = feed_with(rt, alloc, case.a)?;
-    let b = feed_with(rt, alloc, case.b)?;
-    assert_merge(rt, alloc, case, &a, &b)
-}
-
-fn assert_merge<R: Abort + RandomSource>(
+/// The merge of feeds that are lent gives what is wanted, and that of feeds that are given up the
+/// same, each with a random state of its own.
+pub(crate) fn assert_case<R: Abort + RandomSource>(
     rt: &R,
     alloc: Global,
     case: &Case,
-    a: &Feed,
-    b: &Feed,
 ) -> Result<(), Fail> {
-    let merged = merged_of(rt, alloc, a, b)?;
-    assert_gives(rt, alloc, case, (a, b), &merged)
+    let a = feed_with(rt, alloc, case.a)?;
+    let b = feed_with(rt, alloc, case.b)?;
+    let lent = merged_by(rt, alloc, (&a, &b), case.asked)?;
+    assert_gives(rt, alloc, case, &lent)?;
+    assert_owned(rt, alloc, case, (a, b), &lent.feed)
 }
 
-/// The merge of two feeds is what is wanted.
+// The merge of feeds that are given up has the names that are wanted, and the files of this one.
+fn assert_owned<R: Abort + RandomSource>(
+    rt: &R,
+    alloc: Global,
+    case: &Case,
+    (a, b): (Feed, Feed),
+    lent: &Feed,
+) -> Result<(), Fail> {
+    let options = options_of(rt, u64::MAX, case.asked);
+    let owned = merge_owned(alloc, RandomState::new(rt)?, a, b, &options)?;
+    assert_told(rt, alloc, case, &owned.names)?;
+    assert_same_files(rt, alloc, &owned.feed, lent)
+}
+
+/// The merge of two feeds is what is wanted. Its written files pass the validator, and are those
+/// of the feed that is made of them.
 pub(crate) fn assert_gives<R: Abort + RandomSource>(
     rt: &R,
     alloc: Global,
     case: &Case,
-    feeds: (&Feed, &Feed),
     merged: &Merged,
 ) -> Result<(), Fail> {
-    assert_report(rt, alloc, case, feeds, merged)?;
-    assert_files(rt, alloc, case, &merged.feed)
-}
-
-fn assert_report(
-    rt: &impl Abort,
-    alloc: Global,
-    case: &Case,
-    (a, b): (&Feed, &Feed),
-    merged: &Merged,
-) -> Result<(), Fail> {
-    let told = report(alloc, a, b, &merged.names)?;
-    assert_is(rt, told.as_str(), case.report, case.what);
-    Ok(())
-}
-
-fn assert_files<R: Abort + RandomSource>(
-    rt: &R,
-    alloc: Global,
-    case: &Case,
-    feed: &Feed,
-) -> Result<(), Fail> {
-    assert_rows(rt, alloc, feed, case.written)?;
-    assert_reads_back(rt, alloc, feed)
-}
-
-/// The written files of a feed pass the validator, and are those of the feed that is made of them.
-pub(crate) fn assert_reads_back<R: Abort + RandomSource>(
-    rt: &R,
-    alloc: Global,
-    feed: &Feed,
-) -> Result<(), Fail> {
-    let mut folders = folders_with(alloc, feed)?;
+    assert_told(rt, alloc, case, &merged.names)?;
+    assert_rows(rt, alloc, &merged.feed, case.written)?;
+    let mut folders = folders_with(alloc, &merged.feed)?;
     let again = read_feed(alloc, RandomState::new(rt)?, &mut folders, "out")?;
-    assert_same_files(rt, alloc, feed, &again)
+    assert_same_files(rt, alloc, &merged.feed, &again)
+}
+
+// The names and the near stops are those that are wanted.
+fn assert_told(rt: &impl Abort, alloc: Global, case: &Case, names: &Names) -> Result<(), Fail> {
+    assert_text(rt, report(alloc, names), case.report, case.what)?;
+    assert_text(rt, pairs(alloc, names), case.pairs, case.what)
 }

@@ -1,16 +1,18 @@
 //! New names that are taken already, and merges of three feeds.
 
-use crate::cases::{AT_TEN, Case, assert_cases, merged_of};
+use crate::cases::{AT_TEN, Case, MERGED, PLAIN, merged_by};
 use crate::written::{Rows, assert_rows};
 use gtfs_feed::Feed;
 use gtfs_fixtures::{FileText, feed_with};
 use gtfs_merge::Merged;
 use gtfs_table::File;
 use std::alloc::Global;
+use std::process::Abort;
 use std::random::RandomSource;
 use std::test::Fail;
 
-const CASES: &[Case] = &[
+/// A new id is one that neither feed has.
+pub(crate) const CASES: &[Case] = &[
     Case {
         what: "three ids of a chain in both",
         a: &[
@@ -44,6 +46,7 @@ joined agency 1\njoined stop 3\njoined route 1\njoined service 1\njoined trip 0\
 T1_merged_1_merged_1,12:00:00,12:00:00,S1,1,,0,0,\nT1_merged_2,10:00:00,10:00:00,S1,1,,0,0,\n\
 T1_merged_2_merged_1,13:00:00,13:00:00,S1,1,,0,0,\nT1_merged_3,11:00:00,11:00:00,S1,1,,0,0,\n",
         )],
+        ..MERGED
     },
     Case {
         what: "a new name that B alone has, and one that A alone has",
@@ -65,6 +68,7 @@ joined agency 1\njoined stop 3\njoined route 1\njoined service 1\njoined trip 0\
             "R1,C1,T1,,,,0,0\nR1,C1,T1_merged_1,,,,0,0\nR1,C1,T1_merged_2,,,,0,0\nR1,C1,T1_merged_3,,,,0,0\n\
 R1,C1,T1_merged_4,,,,0,0\n",
         )],
+        ..MERGED
     },
     Case {
         what: "nine new names that are taken",
@@ -77,6 +81,7 @@ R1,C1,T1_merged_4\nR1,C1,T1_merged_5\nR1,C1,T1_merged_6\nR1,C1,T1_merged_7\nR1,C
         report: "B\ttrip\tT1\tT1_merged_10\n\
 joined agency 1\njoined stop 3\njoined route 1\njoined service 1\njoined trip 0\n",
         written: &[],
+        ..MERGED
     },
     Case {
         what: "stops, routes and services whose first new names are ids of another kind",
@@ -117,13 +122,9 @@ joined agency 1\njoined stop 2\njoined route 0\njoined service 0\njoined trip 0\
             File::Trips,
             "R1,C1,R1_merged_1,,,,0,0\nR1,C1,T1,,,,0,0\nR1_merged_1,C1_merged_1,T1_merged_1,,,,0,0\n",
         )],
+        ..MERGED
     },
 ];
-
-#[test]
-fn a_new_id_is_one_that_neither_feed_has(rt: HostRuntime) -> Result<(), Fail> {
-    assert_cases(&rt, rt.alloc(), CASES)
-}
 
 // The small dataset at nine.
 const AT_NINE: FileText = (
@@ -160,14 +161,14 @@ T1_merged_2,10:00:00,10:00:00,S1,1,,0,0,\nT1_merged_2,10:10:00,10:10:00,S2,2,,0,
 ];
 
 // The merge of a feed and a change to the small dataset.
-fn merged_with<R: RandomSource>(
+fn merged_with<R: Abort + RandomSource>(
     rt: &R,
     alloc: Global,
     feed: &Feed,
     change: FileText,
 ) -> Result<Merged, Fail> {
     let other = feed_with(rt, alloc, &[change])?;
-    merged_of(rt, alloc, feed, &other)
+    merged_by(rt, alloc, (feed, &other), PLAIN)
 }
 
 #[test]
@@ -183,6 +184,6 @@ fn a_merge_is_merged_with_a_first_feed(rt: HostRuntime) -> Result<(), Fail> {
     let at_ten = feed_with(&rt, rt.alloc(), &[AT_TEN])?;
     let two = merged_with(&rt, rt.alloc(), &at_ten, AT_NINE)?;
     let at_eight = feed_with(&rt, rt.alloc(), &[])?;
-    let three = merged_of(&rt, rt.alloc(), &at_eight, &two.feed)?;
+    let three = merged_by(&rt, rt.alloc(), (&at_eight, &two.feed), PLAIN)?;
     assert_rows(&rt, rt.alloc(), &three.feed, LAST_TWO_FIRST)
 }

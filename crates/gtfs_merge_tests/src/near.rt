@@ -1,31 +1,40 @@
 //! Merges with near stops: stops of the second feed that become stops of the first one.
 
-use crate::assertions::assert_is;
-use crate::cases::{Asked, assert_reads_back, merged_by};
-use crate::report::report;
-use crate::written::{Rows, assert_rows};
-use gtfs_feed::Feed;
-use gtfs_fixtures::{FileText, feed_with};
-use gtfs_merge::{Merged, Names};
+use crate::cases::{Asked, Case};
+use crate::written::Rows;
+use gtfs_fixtures::FileText;
 use gtfs_table::File;
-use std::alloc::Global;
-use std::process::Abort;
-use std::random::RandomSource;
-use std::test::Fail;
 
-// Two changes to the small dataset, how near stops are, and what the merge gives.
-#[derive(Clone, Copy)]
-struct Near {
-    what: &'static str,
-    near: u32,
-    a: &'static [FileText],
-    b: &'static [FileText],
-    // The ids that became others, and how many are joined.
-    report: &'static str,
-    // The near stops of B, each with that of A.
-    pairs: &'static str,
-    written: &'static [Rows],
-}
+// Stops are near up to so many millionths of a degree.
+const NEAR_0: Asked = Asked {
+    near: Some(0),
+    cutoff: None,
+};
+
+const NEAR_1: Asked = Asked {
+    near: Some(1),
+    cutoff: None,
+};
+
+const NEAR_2: Asked = Asked {
+    near: Some(2),
+    cutoff: None,
+};
+
+const NEAR_10: Asked = Asked {
+    near: Some(10),
+    cutoff: None,
+};
+
+const NEAR_1000: Asked = Asked {
+    near: Some(1000),
+    cutoff: None,
+};
+
+const NEAR_ALL: Asked = Asked {
+    near: Some(2_147_483_647),
+    cutoff: None,
+};
 
 /// The small dataset with M1 in place of S1, half a millionth of a degree to the north.
 pub(crate) const MOVED_HALF: FileText = (
@@ -63,10 +72,11 @@ const SMALL_STOPS: Rows = (
     "S1,,Mill,,,52.5,13.4,,0,,0,\nS2,,Lake,,,52.6,13.5,,0,,0,\nS3,,Hill,,,52.7,13.6,,0,,0,\n",
 );
 
-const DISTANCES: &[Near] = &[
-    Near {
+/// Stops are near up to a distance.
+pub(crate) const DISTANCES: &[Case] = &[
+    Case {
         what: "half a millionth north, up to one",
-        near: 1,
+        asked: NEAR_1,
         a: &[],
         b: &[MOVED_HALF, AT_M1],
         report: NEAR_M1,
@@ -79,36 +89,36 @@ const DISTANCES: &[Near] = &[
             ),
         ],
     },
-    Near {
+    Case {
         what: "half a millionth north, none allowed",
-        near: 0,
+        asked: NEAR_0,
         a: &[],
         b: &[MOVED_HALF, AT_M1],
         report: FAR_M1,
         pairs: "",
         written: &[],
     },
-    Near {
+    Case {
         what: "a millionth north",
-        near: 1,
+        asked: NEAR_1,
         a: &[],
         b: &[MOVED_ONE, AT_M1],
         report: NEAR_M1,
         pairs: "M1 S1\n",
         written: &[SMALL_STOPS],
     },
-    Near {
+    Case {
         what: "a thousandth of a millionth more",
-        near: 1,
+        asked: NEAR_1,
         a: &[],
         b: &[MOVED_MORE, AT_M1],
         report: FAR_M1,
         pairs: "",
         written: &[],
     },
-    Near {
+    Case {
         what: "as far as can be asked for",
-        near: 2_147_483_647,
+        asked: NEAR_ALL,
         a: &[],
         b: &[
             (
@@ -123,14 +133,14 @@ const DISTANCES: &[Near] = &[
     },
 ];
 
-/// The small dataset with M1 and M2 in place of S1.
-pub(crate) const TWO: FileText = (
+// The small dataset with M1 and M2 in place of S1.
+const TWO: FileText = (
     "stops.txt",
     "stop_id,stop_name,stop_lat,stop_lon\nM1,Mill,52.5,13.4\nM2,Mill,52.5,13.4\nS2,Lake,52.6,13.5\nS3,Hill,52.7,13.6\n",
 );
 
-/// A trip that stops at both.
-pub(crate) const AT_BOTH: FileText = (
+// A trip that stops at both.
+const AT_BOTH: FileText = (
     "stop_times.txt",
     "trip_id,arrival_time,departure_time,stop_id,stop_sequence\n\
 T1,08:00:00,08:00:00,M1,1\nT1,08:05:00,08:05:00,M2,2\nT1,08:10:00,08:10:00,S2,3\n",
@@ -149,10 +159,11 @@ const AT_S9: FileText = (
 T1,08:00:00,08:00:00,S9,1\nT1,08:10:00,08:10:00,S2,2\n",
 );
 
-const STOPS: &[Near] = &[
-    Near {
+/// Near stops become the least stop of their name and type.
+pub(crate) const STOPS: &[Case] = &[
+    Case {
         what: "two stops that become one",
-        near: 0,
+        asked: NEAR_0,
         a: &[],
         b: &[TWO, AT_BOTH],
         report: "B\tstop\tM1\tS1\nB\tstop\tM2\tS1\nB\ttrip\tT1\tT1_merged_1\n\
@@ -168,9 +179,9 @@ T1_merged_1,08:10:00,08:10:00,S2,3,,0,0,\n",
             ),
         ],
     },
-    Near {
+    Case {
         what: "the least stop, though another has the id",
-        near: 0,
+        asked: NEAR_0,
         a: &[MILLS],
         b: &[(
             "stops.txt",
@@ -184,9 +195,9 @@ joined agency 1\njoined stop 1\njoined route 1\njoined service 1\njoined trip 0\
             "S0,,Mill,,,52.5,13.4,,0,,0,\nS1,,Mill,,,52.5,13.4,,0,,0,\nS2,,Lake,,,52.6,13.5,,0,,0,\n",
         )],
     },
-    Near {
+    Case {
         what: "a stop that keeps its id",
-        near: 0,
+        asked: NEAR_0,
         a: &[],
         b: &[(
             "stops.txt",
@@ -196,9 +207,9 @@ joined agency 1\njoined stop 1\njoined route 1\njoined service 1\njoined trip 0\
         pairs: "S1 S1\n",
         written: &[SMALL_STOPS],
     },
-    Near {
+    Case {
         what: "the least stop by the bytes of the ids, which is joined with another one",
-        near: 1000,
+        asked: NEAR_1000,
         a: &[
             (
                 "stops.txt",
@@ -222,9 +233,9 @@ joined agency 1\njoined stop 2\njoined route 1\njoined service 1\njoined trip 0\
 T1_merged_1,08:00:00,08:00:00,S10,1,,0,0,\nT1_merged_1,08:10:00,08:10:00,S2,2,,0,0,\n",
         )],
     },
-    Near {
+    Case {
         what: "another type, another name and no name",
-        near: 10,
+        asked: NEAR_10,
         a: &[(
             "stops.txt",
             "stop_id,stop_name,stop_lat,stop_lon,location_type\nS1,Mill,52.5,13.4,0\nS2,Lake,52.6,13.5,0\nX1,Hub,52.7,13.6,1\n",
@@ -237,9 +248,9 @@ T1_merged_1,08:00:00,08:00:00,S10,1,,0,0,\nT1_merged_1,08:10:00,08:10:00,S2,2,,0
         pairs: "",
         written: &[],
     },
-    Near {
+    Case {
         what: "the poles: one at one longitude, one at two",
-        near: 2,
+        asked: NEAR_2,
         a: &[(
             "stops.txt",
             "stop_id,stop_name,stop_lat,stop_lon\nS1,Mill,-90,-180\nS2,Lake,52.6,13.5\nS3,Top,90,0\n",
@@ -259,9 +270,9 @@ joined agency 1\njoined stop 1\njoined route 1\njoined service 1\njoined trip 1\
             "M3,,Top,,,90,0.000003,,0,,0,\nS1,,Mill,,,-90,-180,,0,,0,\nS2,,Lake,,,52.6,13.5,,0,,0,\nS3,,Top,,,90,0,,0,,0,\n",
         )],
     },
-    Near {
+    Case {
         what: "the line of longitude 180",
-        near: 1,
+        asked: NEAR_1,
         a: &[(
             "stops.txt",
             "stop_id,stop_name,stop_lat,stop_lon\nS1,Mill,0,180\nS2,Lake,52.6,13.5\n",
@@ -303,10 +314,11 @@ H,Hub,52.7,13.6,1,\nS1,Mill,52.5,13.4,0,H\nS2,Lake,52.6,13.5,0,\n\
 B1,,52.7,13.6,3,H\nB2,Stairs,52.7,13.6,3,H\nB3,Lift,,,3,H\nB4,Ramp,52.7,,3,H\n",
 );
 
-const STATIONS: &[Near] = &[
-    Near {
+/// Near stops have the same parent.
+pub(crate) const STATIONS: &[Case] = &[
+    Case {
         what: "all stops of a station under other ids",
-        near: 0,
+        asked: NEAR_0,
         a: &[HUB],
         b: &[
             (
@@ -325,9 +337,9 @@ joined agency 1\njoined stop 1\njoined route 1\njoined service 1\njoined trip 1\
 N1,,,,,,,,3,H,0,\nN2,,,,,,,,3,H,0,\nS1,,Mill,,,52.5,13.4,,0,H,0,\nS2,,Lake,,,52.6,13.5,,0,,0,\n",
         )],
     },
-    Near {
+    Case {
         what: "a stop that is joined, since its station is near",
-        near: 0,
+        asked: NEAR_0,
         a: &[HUB],
         b: &[(
             "stops.txt",
@@ -339,9 +351,9 @@ joined agency 1\njoined stop 2\njoined route 1\njoined service 1\njoined trip 1\
         pairs: "H2 H\n",
         written: &[],
     },
-    Near {
+    Case {
         what: "a stop of another station, at the same place",
-        near: 10,
+        asked: NEAR_10,
         a: &[HUB],
         b: &[
             (
@@ -356,18 +368,18 @@ joined agency 1\njoined stop 1\njoined route 1\njoined service 1\njoined trip 0\
         pairs: "",
         written: &[],
     },
-    Near {
+    Case {
         what: "nodes that lack a name, a latitude or both",
-        near: 2_147_483_647,
+        asked: NEAR_ALL,
         a: &[NODES_A],
         b: &[NODES_B],
         report: "joined agency 1\njoined stop 3\njoined route 1\njoined service 1\njoined trip 1\n",
         pairs: "",
         written: &[],
     },
-    Near {
+    Case {
         what: "a stop of another station, which is far",
-        near: 0,
+        asked: NEAR_0,
         a: &[HUB],
         b: &[
             (
@@ -384,10 +396,11 @@ joined agency 1\njoined stop 1\njoined route 1\njoined service 1\njoined trip 0\
     },
 ];
 
-const TRANSFERS: &[Near] = &[
-    Near {
+/// Transfers of near stops become one.
+pub(crate) const TRANSFERS: &[Case] = &[
+    Case {
         what: "two transfers of B that become one, and one within a stop",
-        near: 0,
+        asked: NEAR_0,
         a: &[],
         b: &[
             TWO,
@@ -402,9 +415,9 @@ joined agency 1\njoined stop 2\njoined route 1\njoined service 1\njoined trip 0\
         pairs: "M1 S1\nM2 S1\n",
         written: &[(File::Transfers, "S1,S1,,,,,2,30\nS1,S2,,,,,2,10\n")],
     },
-    Near {
+    Case {
         what: "a transfer of A that they become, too",
-        near: 0,
+        asked: NEAR_0,
         a: &[(
             "transfers.txt",
             "from_stop_id,to_stop_id,transfer_type,min_transfer_time\nS1,S2,2,90\n",
@@ -423,75 +436,3 @@ joined agency 1\njoined stop 2\njoined route 1\njoined service 1\njoined trip 0\
         written: &[(File::Transfers, "S1,S2,,,,,2,90\n")],
     },
 ];
-
-fn assert_near<R: Abort + RandomSource>(rt: &R, alloc: Global, cases: &[Near]) -> Result<(), Fail> {
-    for case in cases {
-        let a = feed_with(rt, alloc, case.a)?;
-        let b = feed_with(rt, alloc, case.b)?;
-        assert_case(rt, alloc, case, &a, &b)?;
-    }
-    Ok(())
-}
-
-fn assert_case<R: Abort + RandomSource>(
-    rt: &R,
-    alloc: Global,
-    case: &Near,
-    a: &Feed,
-    b: &Feed,
-) -> Result<(), Fail> {
-    let asked = Asked {
-        near: Some(case.near),
-        cutoff: None,
-    };
-    let merged = merged_by(rt, alloc, (a, b), asked)?;
-    assert_names(rt, alloc, case, (a, b), &merged)?;
-    assert_rows(rt, alloc, &merged.feed, case.written)?;
-    assert_reads_back(rt, alloc, &merged.feed)
-}
-
-fn assert_names(
-    rt: &impl Abort,
-    alloc: Global,
-    case: &Near,
-    (a, b): (&Feed, &Feed),
-    merged: &Merged,
-) -> Result<(), Fail> {
-    let told = report(alloc, a, b, &merged.names)?;
-    assert_is(rt, told.as_str(), case.report, case.what);
-    let pairs = pairs(alloc, &merged.names)?;
-    assert_is(rt, pairs.as_str(), case.pairs, case.what);
-    Ok(())
-}
-
-/// A line for each near stop: its id and that of the stop of A.
-pub(crate) fn pairs(alloc: Global, names: &Names) -> Result<String, Fail> {
-    let mut text = String::new(alloc);
-    for (own, other) in names.near() {
-        text.push_str(own.as_str())?;
-        text.push_str(" ")?;
-        text.push_str(other.as_str())?;
-        text.push_str("\n")?;
-    }
-    Ok(text)
-}
-
-#[test]
-fn stops_are_near_up_to_a_distance(rt: HostRuntime) -> Result<(), Fail> {
-    assert_near(&rt, rt.alloc(), DISTANCES)
-}
-
-#[test]
-fn near_stops_become_the_least_stop_of_their_name_and_type(rt: HostRuntime) -> Result<(), Fail> {
-    assert_near(&rt, rt.alloc(), STOPS)
-}
-
-#[test]
-fn near_stops_have_the_same_parent(rt: HostRuntime) -> Result<(), Fail> {
-    assert_near(&rt, rt.alloc(), STATIONS)
-}
-
-#[test]
-fn transfers_of_near_stops_become_one(rt: HostRuntime) -> Result<(), Fail> {
-    assert_near(&rt, rt.alloc(), TRANSFERS)
-}

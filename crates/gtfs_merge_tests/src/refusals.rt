@@ -91,8 +91,8 @@ fn a_file_is_as_long_as_the_limit_and_no_longer(rt: HostRuntime) -> Result<(), F
     Ok(())
 }
 
-/// The agency of the small dataset in another zone.
-pub(crate) const BERLIN: FileText = (
+// The agency of the small dataset in another zone.
+const BERLIN: FileText = (
     "agency.txt",
     "agency_name,agency_url,agency_timezone\nMetro,http://m.example,Europe/Berlin\n",
 );
@@ -115,47 +115,68 @@ M,Metro,http://m.example,Europe/Berlin\nC,City,http://c.example,Europe/Berlin\n"
     ),
 ];
 
+// Of all days, on one or neither side of those that have service.
+const FROM_THE_FIRST: Asked = Asked {
+    near: Some(0),
+    cutoff: Some("19000101"),
+};
+
+const FROM_THE_LAST: Asked = Asked {
+    near: Some(0),
+    cutoff: Some("99981231"),
+};
+
+// Two feeds, how long files may be, what is asked for, and whether the zones of the feeds differ,
+// which is judged before lengths, and with a cutoff also where nothing is left of one of them.
+const ZONES: &[((&[FileText], &[FileText]), u64, Asked, bool, &str)] = &[
+    ((&[], &[BERLIN]), u64::MAX, PLAIN, true, "another zone in B"),
+    ((&[BERLIN], &[]), u64::MAX, PLAIN, true, "another zone in A"),
+    (
+        (&[], &[LOWER]),
+        u64::MAX,
+        PLAIN,
+        true,
+        "another name of the zone",
+    ),
+    (
+        (&[], TWO_OF_BERLIN),
+        u64::MAX,
+        PLAIN,
+        true,
+        "another zone of two agencies",
+    ),
+    (
+        (&[BERLIN], TWO_OF_BERLIN),
+        u64::MAX,
+        PLAIN,
+        false,
+        "one zone",
+    ),
+    ((&[], &[AT_TEN]), u64::MAX, PLAIN, false, "other times"),
+    ((&[], &[BERLIN]), 0, PLAIN, true, "before lengths"),
+    (
+        (&[], &[BERLIN]),
+        0,
+        FROM_THE_FIRST,
+        true,
+        "from the first day on",
+    ),
+    ((&[], &[BERLIN]), 0, ON_2_APRIL, true, "from 2 April on"),
+    (
+        (&[], &[BERLIN]),
+        0,
+        FROM_THE_LAST,
+        true,
+        "from the last day on",
+    ),
+];
+
 #[test]
 fn zones_of_two_names_are_not_merged(rt: HostRuntime) -> Result<(), Fail> {
-    for (a, b, differ, what) in [
-        (
-            &[] as &[FileText],
-            &[BERLIN] as &[FileText],
-            true,
-            "another zone in B",
-        ),
-        (&[BERLIN], &[], true, "another zone in A"),
-        (&[], &[LOWER], true, "another name of the zone"),
-        (&[], TWO_OF_BERLIN, true, "another zone of two agencies"),
-        (&[BERLIN], TWO_OF_BERLIN, false, "one zone"),
-        (&[], &[AT_TEN], false, "other times"),
-    ] {
+    for (feeds, limit, asked, differ, what) in ZONES {
         let fault = differ.then_some(MergeFault::ZoneDiffers);
-        let found = refused(&rt, rt.alloc(), (a, b), u64::MAX, PLAIN)?;
-        assert_is(&rt, found, (fault, differ), what);
-    }
-    Ok(())
-}
-
-#[test]
-fn zones_are_judged_before_lengths(rt: HostRuntime) -> Result<(), Fail> {
-    let found = refused(&rt, rt.alloc(), (&[], &[BERLIN]), 0, PLAIN)?;
-    let wanted = (Some(MergeFault::ZoneDiffers), true);
-    assert_is(&rt, found, wanted, "another zone in B");
-    Ok(())
-}
-
-// Also where nothing is left of one of the feeds.
-#[test]
-fn zones_are_judged_with_a_cutoff(rt: HostRuntime) -> Result<(), Fail> {
-    for date in ["19000101", "20240402", "99981231"] {
-        let asked = Asked {
-            near: Some(0),
-            cutoff: Some(date),
-        };
-        let found = refused(&rt, rt.alloc(), (&[], &[BERLIN]), 0, asked)?;
-        let wanted = (Some(MergeFault::ZoneDiffers), true);
-        assert_is(&rt, found, wanted, date);
+        let found = refused(&rt, rt.alloc(), *feeds, *limit, *asked)?;
+        assert_is(&rt, found, (fault, *differ), what);
     }
     Ok(())
 }
@@ -168,7 +189,7 @@ fn merged_at_last<R: Abort + RandomSource>(
     a: &Feed,
     b: &Feed,
 ) -> Result<Merged, Fail> {
-    let options = options_of(rt, u64::MAX, MOVED_AND_CUT.asked());
+    let options = options_of(rt, u64::MAX, MOVED_AND_CUT.asked);
     match merge(alloc, RandomState::new(rt)?, a, b, &options) {
         Ok(merged) => Ok(merged),
         Err(MergeFault::OutOfMemory) => Ok(merge(alloc, RandomState::new(rt)?, a, b, &options)?),
@@ -178,23 +199,27 @@ fn merged_at_last<R: Abort + RandomSource>(
 
 #[test]
 fn a_refused_merge_can_be_asked_for_again(rt: HostRuntime) -> Result<(), Fail> {
-    let case = &MOVED_AND_CUT.case;
-    let a = feed_with(&rt, rt.alloc(), case.a)?;
-    let b = feed_with(&rt, rt.alloc(), case.b)?;
+    let a = feed_with(&rt, rt.alloc(), MOVED_AND_CUT.a)?;
+    let b = feed_with(&rt, rt.alloc(), MOVED_AND_CUT.b)?;
     let merged = merged_at_last(&rt, rt.alloc(), &a, &b)?;
-    assert_gives(&rt, rt.alloc(), case, (&a, &b), &merged)
+    assert_gives(&rt, rt.alloc(), &MOVED_AND_CUT, &merged)
 }
 
 #[test]
 fn faults_have_lines_and_numbers(rt: HostRuntime) -> Result<(), Fail> {
-    for (fault, number, line) in [
-        (MergeFault::ZoneDiffers, 1, "zones differ"),
-        (MergeFault::TooLarge, 2, "merged feed too large"),
-        (MergeFault::OutOfMemory, 3, "out of memory"),
-    ] {
-        assert_is(&rt, fault as u8, number, line);
-        let shown = format!(in rt.alloc(); "{fault}")?;
-        assert_is(&rt, shown.as_str(), line, number);
-    }
+    let text = format!(in rt.alloc();
+        "{}, {}, {}",
+        MergeFault::ZoneDiffers,
+        MergeFault::TooLarge,
+        MergeFault::OutOfMemory,
+    )?;
+    let wanted = "zones differ, merged feed too large, out of memory";
+    assert_is(&rt, text.as_str(), wanted, "the lines");
+    let numbers = [
+        MergeFault::ZoneDiffers as u8,
+        MergeFault::TooLarge as u8,
+        MergeFault::OutOfMemory as u8,
+    ];
+    assert_is(&rt, numbers, [1, 2, 3], "the numbers");
     Ok(())
 }

@@ -1,9 +1,8 @@
 //! Services: their weeks and exceptions are compared.
 
-use crate::cases::{Case, assert_cases};
+use crate::cases::{Case, MERGED};
 use gtfs_fixtures::FileText;
 use gtfs_table::File;
-use std::test::Fail;
 
 const ADDED: FileText = (
     "calendar_dates.txt",
@@ -14,7 +13,8 @@ const ADDED: FileText = (
 pub(crate) const RENAMED: &str = "B\tservice\tC1\tC1_merged_1\nB\ttrip\tT1\tT1_merged_1\n\
 joined agency 1\njoined stop 3\njoined route 1\njoined service 0\njoined trip 0\n";
 
-const CASES: &[Case] = &[
+/// Services are joined with their exceptions.
+pub(crate) const CASES: &[Case] = &[
     Case {
         what: "an exception in B alone",
         a: &[],
@@ -31,6 +31,7 @@ const CASES: &[Case] = &[
                 "R1,C1,T1,,,,0,0\nR1,C1_merged_1,T1_merged_1,,,,0,0\n",
             ),
         ],
+        ..MERGED
     },
     Case {
         what: "a date that is added in A and removed in B",
@@ -44,6 +45,7 @@ const CASES: &[Case] = &[
             File::CalendarDates,
             "C1,20240402,1\nC1_merged_1,20240402,2\n",
         )],
+        ..MERGED
     },
     Case {
         what: "the same exceptions in another order",
@@ -60,6 +62,7 @@ const CASES: &[Case] = &[
             (File::Calendar, "C1,1,1,1,1,1,1,1,20240401,20240401\n"),
             (File::CalendarDates, "C1,20240401,2\nC1,20240402,1\n"),
         ],
+        ..MERGED
     },
     Case {
         what: "another day of the week",
@@ -74,6 +77,7 @@ C1,1,1,1,1,1,1,0,20240401,20240401\n",
             File::Calendar,
             "C1,1,1,1,1,1,1,1,20240401,20240401\nC1_merged_1,1,1,1,1,1,1,0,20240401,20240401\n",
         )],
+        ..MERGED
     },
     Case {
         what: "a week in A, and a date instead in B",
@@ -93,10 +97,6 @@ C1,1,1,1,1,1,1,0,20240401,20240401\n",
             (File::Calendar, "C1,1,1,1,1,1,1,1,20240401,20240401\n"),
             (File::CalendarDates, "C1_merged_1,20240401,1\n"),
         ],
+        ..MERGED
     },
 ];
-
-#[test]
-fn services_are_joined_with_their_exceptions(rt: HostRuntime) -> Result<(), Fail> {
-    assert_cases(&rt, rt.alloc(), CASES)
-}

@@ -1,9 +1,8 @@
 //! Stops in stations, and boarding areas of stops: a stop is joined where its parent is.
 
-use crate::cases::{Case, assert_cases};
+use crate::cases::{Case, MERGED};
 use gtfs_fixtures::FileText;
 use gtfs_table::File;
-use std::test::Fail;
 
 // A station with a stop, an entrance and a node; a boarding area of the stop; and a stop apart.
 const HUB: FileText = (
@@ -12,7 +11,8 @@ const HUB: FileText = (
 H,Hub,52.7,13.6,1,\nS1,Mill,52.5,13.4,0,H\nS2,Lake,52.6,13.5,0,\nE1,Gate,52.7,13.6,2,H\nN1,,,,3,H\nB1,,,,4,S1\n",
 );
 
-const CASES: &[Case] = &[
+/// Stops are joined with their parents.
+pub(crate) const CASES: &[Case] = &[
     Case {
         what: "the same stops",
         a: &[HUB],
@@ -23,6 +23,7 @@ const CASES: &[Case] = &[
             "B1,,,,,,,,4,S1,0,\nE1,,Gate,,,52.7,13.6,,2,H,0,\nH,,Hub,,,52.7,13.6,,1,,0,\nN1,,,,,,,,3,H,0,\n\
 S1,,Mill,,,52.5,13.4,,0,H,0,\nS2,,Lake,,,52.6,13.5,,0,,0,\n",
         )],
+        ..MERGED
     },
     Case {
         what: "a station with another name",
@@ -51,6 +52,7 @@ S2,,Lake,,,52.6,13.5,,0,,0,\n",
 T1_merged_1,08:00:00,08:00:00,S1_merged_1,1,,0,0,\nT1_merged_1,08:10:00,08:10:00,S2,2,,0,0,\n",
             ),
         ],
+        ..MERGED
     },
     Case {
         what: "a station with another id",
@@ -68,6 +70,7 @@ joined agency 1\njoined stop 1\njoined route 1\njoined service 1\njoined trip 0\
 H,,Hub,,,52.7,13.6,,1,,0,\nH2,,Hub,,,52.7,13.6,,1,,0,\nN1,,,,,,,,3,H,0,\n\
 S1,,Mill,,,52.5,13.4,,0,H,0,\nS1_merged_1,,Mill,,,52.5,13.4,,0,H2,0,\nS2,,Lake,,,52.6,13.5,,0,,0,\n",
         )],
+        ..MERGED
     },
     Case {
         what: "a stop with another name, which has a boarding area",
@@ -85,6 +88,7 @@ joined agency 1\njoined stop 4\njoined route 1\njoined service 1\njoined trip 0\
 H,,Hub,,,52.7,13.6,,1,,0,\nN1,,,,,,,,3,H,0,\nS1,,Mill,,,52.5,13.4,,0,H,0,\n\
 S1_merged_1,,Pond,,,52.5,13.4,,0,H,0,\nS2,,Lake,,,52.6,13.5,,0,,0,\n",
         )],
+        ..MERGED
     },
     Case {
         what: "a stop that has no station in B",
@@ -97,10 +101,6 @@ H,Hub,52.7,13.6,1,\nS1,Mill,52.5,13.4,0,\nS2,Lake,52.6,13.5,0,\n",
         report: "B\tstop\tS1\tS1_merged_1\nB\ttrip\tT1\tT1_merged_1\n\
 joined agency 1\njoined stop 2\njoined route 1\njoined service 1\njoined trip 0\n",
         written: &[],
+        ..MERGED
     },
 ];
-
-#[test]
-fn stops_are_joined_with_their_parents(rt: HostRuntime) -> Result<(), Fail> {
-    assert_cases(&rt, rt.alloc(), CASES)
-}

@@ -3,14 +3,14 @@
 //! Two transfers of one feed never get one key here,
 //! since without near stops two ids of a kind never become one.
 
-use crate::cases::{AT_TEN, Case, assert_cases};
+use crate::cases::{AT_TEN, Case, MERGED};
 use gtfs_table::File;
-use std::test::Fail;
 
 const JOINED: &str =
     "joined agency 1\njoined stop 3\njoined route 1\njoined service 1\njoined trip 1\n";
 
-const CASES: &[Case] = &[
+/// Each key of a transfer stands once.
+pub(crate) const CASES: &[Case] = &[
     Case {
         what: "one key in both",
         a: &[(
@@ -23,6 +23,7 @@ const CASES: &[Case] = &[
         )],
         report: JOINED,
         written: &[(File::Transfers, "S1,S2,,,,,2,60\n")],
+        ..MERGED
     },
     Case {
         what: "one key in both, and keys of each",
@@ -39,6 +40,7 @@ const CASES: &[Case] = &[
             File::Transfers,
             "S1,S2,,,,,3,\nS2,S1,,,,,0,\nS2,S3,,,,,1,\nS3,S1,,,,,3,\n",
         )],
+        ..MERGED
     },
     Case {
         what: "one key of a trip that is renamed",
@@ -62,6 +64,7 @@ joined agency 1\njoined stop 3\njoined route 1\njoined service 1\njoined trip 0\
             ",,,,T1_merged_1,T1_merged_1,4,\nS1,S2,,,,,2,30\nS1,S2,,,T1,,2,60\n\
 S1,S2,,,T1_merged_1,,2,90\nS1,S2,,,T1_merged_1,T1_merged_1,2,91\n",
         )],
+        ..MERGED
     },
     Case {
         what: "a stop and a route that are renamed",
@@ -89,10 +92,6 @@ joined agency 1\njoined stop 2\njoined route 0\njoined service 1\njoined trip 0\
             File::Transfers,
             "S3,S1,R1,R1,,,0,\nS3_merged_1,S1,R1_merged_1,R1_merged_1,,,1,\n",
         )],
+        ..MERGED
     },
 ];
-
-#[test]
-fn each_key_of_a_transfer_stands_once(rt: HostRuntime) -> Result<(), Fail> {
-    assert_cases(&rt, rt.alloc(), CASES)
-}

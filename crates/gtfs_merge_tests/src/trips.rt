@@ -1,9 +1,8 @@
 //! Trips: their stop times, headsigns and frequencies are compared.
 
-use crate::cases::{Case, assert_cases};
+use crate::cases::{Case, MERGED};
 use gtfs_fixtures::FileText;
 use gtfs_table::File;
-use std::test::Fail;
 
 // The trip of the small dataset and that of B differ, and all else is joined.
 const RENAMED: Case = Case {
@@ -13,9 +12,11 @@ const RENAMED: Case = Case {
     report: "B\ttrip\tT1\tT1_merged_1\n\
 joined agency 1\njoined stop 3\njoined route 1\njoined service 1\njoined trip 0\n",
     written: &[],
+    ..MERGED
 };
 
-const OF_TRIPS: &[Case] = &[
+/// Rows of trips are compared.
+pub(crate) const OF_TRIPS: &[Case] = &[
     Case {
         what: "a headsign in B alone",
         b: &[(
@@ -66,7 +67,8 @@ const OF_TRIPS: &[Case] = &[
     },
 ];
 
-const OF_STOP_TIMES: &[Case] = &[
+/// So are their stop times.
+pub(crate) const OF_STOP_TIMES: &[Case] = &[
     Case {
         what: "one arrival",
         b: &[(
@@ -142,7 +144,8 @@ const PERIOD: FileText = (
     "trip_id,start_time,end_time,headway_secs,exact_times\nT1,06:00:00,07:00:00,600,0\n",
 );
 
-const OF_FREQUENCIES: &[Case] = &[
+/// So are their frequencies.
+pub(crate) const OF_FREQUENCIES: &[Case] = &[
     Case {
         what: "a frequency in B alone",
         b: &[PERIOD],
@@ -188,11 +191,12 @@ T1,07:00:00,08:00:00,600,0\nT1,06:00:00,07:00:00,600,0\n",
         b: &[PERIOD],
         report: "joined agency 1\njoined stop 3\njoined route 1\njoined service 1\njoined trip 1\n",
         written: &[(File::Frequencies, "T1,06:00:00,07:00:00,600,0\n")],
+        ..MERGED
     },
 ];
 
-// Headsigns are texts: B has those of A in another order, since another trip names them first.
-const HEADSIGNS: Case = Case {
+/// Headsigns are texts: B has those of A in another order, since another trip names them first.
+pub(crate) const HEADSIGNS: Case = Case {
     what: "headsigns of stop times in another order",
     a: &[(
         "stop_times.txt",
@@ -217,12 +221,5 @@ T1,08:00:00,08:00:00,S1,1,Lake\nT1,08:10:00,08:10:00,S2,2,Hill\n",
         "T0,07:00:00,07:00:00,S1,1,Pond,0,0,\nT0,07:10:00,07:10:00,S2,2,Hill,0,0,\n\
 T1,08:00:00,08:00:00,S1,1,Lake,0,0,\nT1,08:10:00,08:10:00,S2,2,Hill,0,0,\n",
     )],
+    ..MERGED
 };
-
-#[test]
-fn trips_that_differ_are_renamed(rt: HostRuntime) -> Result<(), Fail> {
-    for cases in [OF_TRIPS, OF_STOP_TIMES, OF_FREQUENCIES, &[HEADSIGNS]] {
-        assert_cases(&rt, rt.alloc(), cases)?;
-    }
-    Ok(())
-}

@@ -1,6 +1,7 @@
 //! Whole merges: the names and all nine files.
 
-use crate::cases::{AT_TEN, Case, assert_cases};
+use crate::cases::{AT_TEN, Case, MERGED, assert_case};
+use crate::{agencies, chains, cutoff, near, services, stops, transfers, trips};
 use gtfs_fixtures::FileText;
 use gtfs_table::File;
 use std::test::Fail;
@@ -27,6 +28,7 @@ const ITSELF: Case = Case {
         (File::Frequencies, ""),
         (File::Transfers, ""),
     ],
+    ..MERGED
 };
 
 /// A trip of A has the first new name of the other.
@@ -68,6 +70,7 @@ T1_merged_2,10:00:00,10:00:00,S1,1,,0,0,\nT1_merged_2,10:10:00,10:10:00,S2,2,,0,
         (File::Frequencies, ""),
         (File::Transfers, ""),
     ],
+    ..MERGED
 };
 
 const WITH_TRANSFER: Case = Case {
@@ -126,13 +129,36 @@ T1_merged_1,08:00:00,08:00:00,S1,1,,0,0,\nT1_merged_1,08:10:00,08:10:00,S2,2,,0,
         (File::Frequencies, ""),
         (File::Transfers, ""),
     ],
+    ..MERGED
 };
+
+// All merges that were worked out.
+const ALL: [&[Case]; 17] = [
+    &[ITSELF, OTHER_TIMES, WITH_TRANSFER, TWO_AGENCIES],
+    agencies::CASES,
+    stops::CASES,
+    services::CASES,
+    trips::OF_TRIPS,
+    trips::OF_STOP_TIMES,
+    trips::OF_FREQUENCIES,
+    &[trips::HEADSIGNS],
+    transfers::CASES,
+    chains::CASES,
+    near::DISTANCES,
+    near::STOPS,
+    near::STATIONS,
+    near::TRANSFERS,
+    cutoff::WEEKS,
+    cutoff::EXCEPTIONS,
+    cutoff::JOINED,
+];
 
 #[test]
 fn merges_have_the_names_and_files_that_were_worked_out(rt: HostRuntime) -> Result<(), Fail> {
-    assert_cases(
-        &rt,
-        rt.alloc(),
-        &[ITSELF, OTHER_TIMES, WITH_TRANSFER, TWO_AGENCIES],
-    )
+    for cases in ALL {
+        for case in cases {
+            assert_case(&rt, rt.alloc(), case)?;
+        }
+    }
+    Ok(())
 }
