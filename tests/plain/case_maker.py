@@ -5,6 +5,7 @@ import os
 from dataclasses import replace
 from random import Random
 
+from aims import aim
 from boards import Key, departures
 from commands import Ended, feed, moment_of, zone_of
 from feed_maker import BASES, file_bytes, make_feed
@@ -24,10 +25,12 @@ def put(path, files):
             file.write(held)
 
 
-def put_feed(random, folder, oddities):
-    """A feed in a folder, with so many odd changes."""
+def put_feed(random, folder, oddities, number=None):
+    """A feed in a folder, with so many odd changes, and with a number with those that aim at sites of problems."""
     made = make_feed(random, random.choice(BASES))
     change(random, made, ODDITIES, oddities)
+    if number is not None:
+        aim(random, made, number, 5)
     put(folder, file_bytes(random, made))
     if random.random() < 0.03:
         # (a folder of the name of a kept file and a name that is not UTF-8 cannot be read)
@@ -169,8 +172,9 @@ def folder_word(random):
     return "f" if random.random() < 0.94 else random.choice(["none", "", "z", "z/f", "f/", "./f", "a\tb", "none/f"])
 
 
-def given_check(random):
-    put_feed(random, "f", random.choice([0, 1, 1, 2, 3, 5]))
+def given_check(random, number):
+    # (a fourth of them is left as other commands have them)
+    put_feed(random, "f", random.choice([0, 1, 1, 2, 3, 5]), None if number % 4 == 0 else number - number // 4)
     put(".", {"z": b""})
     return {"DIR": folder_word(random)}
 
@@ -276,7 +280,7 @@ def cutoff(random, made):
     return date_text(min(max(date, FIRST_SERVICE_DAY), LAST_SERVICE_DAY))
 
 
-GIVEN = {"check": given_check, "board": given_board, "boards": given_boards, "timetable": given_timetable, "merge": given_merge}
+GIVEN = {"board": given_board, "boards": given_boards, "timetable": given_timetable, "merge": given_merge}
 
 
 # ---- words
@@ -317,7 +321,7 @@ def make_case(name):
     """Makes the case of this name, as `1-17-board` or `1-17-hostile-board`, in the folder where this runs, and gives its words."""
     random = Random(name)
     command = name.split("-")[-1]
-    given = GIVEN[command](random)
+    given = given_check(random, int(name.split("-")[1]) // len(COMMANDS)) if command == "check" else GIVEN[command](random)
     if "-hostile-" in name:
         return change_case(random, words_of(random, command, given))
     return odd_words(random, command, given) if random.random() < 0.07 else words_of(random, command, given)

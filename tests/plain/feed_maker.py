@@ -14,12 +14,14 @@ ZONES = ["UTC", "Europe/Berlin"]
 
 
 class MadeFeed:
-    """A feed as rows: of each file a list of dicts from columns to texts; and files that are set as bytes, or taken away."""
+    """A feed as rows: of each file a list of dicts from columns to texts; how many fields its rows have beside those of the header;
+    and files that are set as bytes, or taken away."""
 
     def __init__(self, base):
         self.base = base
         self.sheets = {name: [] for name in FILES}
         self.headers = {}
+        self.lengths = {}
         self.set = {}
 
     def ids(self, name, column):
@@ -241,6 +243,11 @@ def file_text(random, records, dressed):
     return text + (end if not dressed or random.random() < 0.8 else "")
 
 
+def resized(record, change):
+    """A record with so many fields more or less."""
+    return record[:len(record) + change] if change < 0 else record + ["more"] * change
+
+
 def file_bytes(random, feed):
     """The files of a feed by their names."""
     files = {}
@@ -249,7 +256,7 @@ def file_bytes(random, feed):
         if not rows and name not in ("stop_times.txt", "trips.txt") and random.random() < 0.8:
             continue
         header = feed.headers[name]
-        records = [header, *([row.get(column, "") for column in header] for row in rows)]
+        records = [header, *(resized([row.get(column, "") for column in header], feed.lengths.get(name, 0)) for row in rows)]
         marks = b"\xef\xbb\xbf" * (random.randint(1, 2) if dressed and random.random() < 0.2 else 0)
         files[name] = marks + file_text(random, records, dressed).encode("utf-8", "surrogateescape")
     files.update(feed.set)

@@ -3,8 +3,7 @@
 use crate::assertions::{assert_holds, assert_is};
 use crate::full::FULL;
 use gtfs_feed::Feed;
-use gtfs_fixtures::{FileText, feed_with, folders_of, read_by_draft};
-use gtfs_rules::check;
+use gtfs_fixtures::{feed_with, read_by_draft};
 use gtfs_table::{File, Folders, MemoryFolders, Tables};
 use std::alloc::Global;
 use std::hash::RandomState;
@@ -70,15 +69,6 @@ fn write_table(
     Ok(())
 }
 
-fn assert_reads_back<R: Abort + RandomSource>(
-    rt: &R,
-    alloc: Global,
-    changes: &[FileText],
-) -> Result<(), Fail> {
-    let feed = feed_with(rt, alloc, changes)?;
-    assert_feed_reads_back(rt, alloc, &feed)
-}
-
 // A feed that is written and read again is the same.
 pub(crate) fn assert_feed_reads_back<R: Abort + RandomSource>(
     rt: &R,
@@ -93,40 +83,10 @@ pub(crate) fn assert_feed_reads_back<R: Abort + RandomSource>(
 
 #[test]
 fn feeds_pass_and_read_back(rt: HostRuntime) -> Result<(), Fail> {
-    assert_reads_back(&rt, rt.alloc(), &[])?;
-    assert_reads_back(&rt, rt.alloc(), &FULL)
-}
-
-// How many problems the folder has, and whether it passes.
-pub(crate) fn problems(
-    alloc: Global,
-    folders: &mut MemoryFolders,
-    dir: &str,
-) -> Result<(usize, bool), Fail> {
-    let tables = Tables::read(alloc, folders, dir)?;
-    let report = check(alloc, &tables)?;
-    let count = report.problems().len();
-    Ok((count, report.passed().is_ok()))
-}
-
-#[test]
-fn the_written_form_has_no_problem(rt: HostRuntime) -> Result<(), Fail> {
-    let feed = feed_with(&rt, rt.alloc(), &[])?;
-    let mut folders = MemoryFolders::new(rt.alloc(), 10_000, None);
-    write_tables(&rt, rt.alloc(), &feed, &mut folders)?;
-    let found = problems(rt.alloc(), &mut folders, "again")?;
-    assert_is(&rt, found, (0, true), "problems");
-    Ok(())
-}
-
-// Two periods of one trip share the seconds from 06:30:00 on: no feed can be made.
-#[test]
-fn periods_that_overlap_do_not_pass(rt: HostRuntime) -> Result<(), Fail> {
-    let frequencies = "trip_id,start_time,end_time,headway_secs,exact_times\n\
-T1,06:00:00,07:00:00,1800,0\nT1,06:30:00,08:00:00,1800,1\n";
-    let mut folders = folders_of(rt.alloc(), &[("frequencies.txt", frequencies)])?;
-    let found = problems(rt.alloc(), &mut folders, "f1")?;
-    assert_is(&rt, found, (1, false), "problems");
+    for changes in [&[], FULL.as_slice()] {
+        let feed = feed_with(&rt, rt.alloc(), changes)?;
+        assert_feed_reads_back(&rt, rt.alloc(), &feed)?;
+    }
     Ok(())
 }
 

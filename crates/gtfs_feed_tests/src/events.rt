@@ -6,7 +6,7 @@ use crate::full::FULL;
 use crate::lanes::{Wanted, assert_lanes};
 use crate::named::{service_id, stop_named, trip_id};
 use crate::unions::assert_unions;
-use crate::{ids, patterns};
+use crate::{ids, patterns, timepoints};
 use gtfs_feed::Feed;
 use gtfs_fixtures::{FileText, feed_with, made_feed};
 use gtfs_rows::ServiceNo;
@@ -16,15 +16,18 @@ use std::process::Abort;
 use std::random::RandomSource;
 use std::test::Fail;
 
-// A change to the small dataset, and what passes the stop then:
-// for each event its service, second, trip, run, sequence and row.
-struct Case {
-    what: &'static str,
-    files: &'static [FileText],
-    stop: &'static str,
-    events: &'static str,
-    lanes: Wanted,
+/// A change to the small dataset, with what passes a stop then, by given times and by filled ones
+/// where these are others.
+pub(crate) struct Case {
+    pub(crate) what: &'static str,
+    pub(crate) files: &'static [FileText],
+    pub(crate) stop: &'static str,
+    pub(crate) given: Passes,
+    pub(crate) filled: Option<Passes>,
 }
+
+/// For each event of a stop its service, second, trip, run, sequence and row; and the lanes.
+pub(crate) struct Passes(pub(crate) &'static str, pub(crate) Wanted);
 
 // Of trips without frequencies.
 const LISTED: &[Case] = &[
@@ -32,34 +35,29 @@ const LISTED: &[Case] = &[
         what: "a trip",
         files: &[],
         stop: "S1",
-        events: "C1 28800 T1 28800 1 0\n",
-        lanes: Wanted {
-            lists: 1,
-            periods: 0,
-            filled: 0,
-            greatest: 28_800,
-        },
+        given: Passes("C1 28800 T1 28800 1 0\n", Wanted(1, 0, 0, 28_800)),
+        filled: None,
     },
     Case {
         what: "a stop without a trip",
         files: &[],
         stop: "S3",
-        events: "",
-        lanes: Wanted::NONE,
+        given: Passes("", Wanted::NONE),
+        filled: None,
     },
     Case {
         what: "a last stop time is no departure",
         files: &[],
         stop: "S2",
-        events: "",
-        lanes: Wanted::NONE,
+        given: Passes("", Wanted::NONE),
+        filled: None,
     },
     Case {
         what: "a trip without stop times has no run",
         files: &[("stop_times.txt", STOP_TIMES)],
         stop: "S1",
-        events: "",
-        lanes: Wanted::NONE,
+        given: Passes("", Wanted::NONE),
+        filled: None,
     },
     Case {
         what: "one stop time is the last, and no departure",
@@ -68,8 +66,8 @@ const LISTED: &[Case] = &[
             "trip_id,arrival_time,departure_time,stop_id,stop_sequence\nT1,08:00:00,08:00:00,S1,1\n",
         )],
         stop: "S1",
-        events: "",
-        lanes: Wanted::NONE,
+        given: Passes("", Wanted::NONE),
+        filled: None,
     },
     Case {
         what: "two trips of one service past midnight",
@@ -85,13 +83,11 @@ A1,25:10:00,25:10:00,S1,1\nA1,25:20:00,25:20:00,S2,2\nA2,01:10:00,01:10:00,S1,1\
             ),
         ],
         stop: "S1",
-        events: "C1 4200 A2 4200 1 0\nC1 90600 A1 90600 1 0\n",
-        lanes: Wanted {
-            lists: 1,
-            periods: 0,
-            filled: 0,
-            greatest: 90_600,
-        },
+        given: Passes(
+            "C1 4200 A2 4200 1 0\nC1 90600 A1 90600 1 0\n",
+            Wanted(1, 0, 0, 90_600),
+        ),
+        filled: None,
     },
     Case {
         what: "two trips at one second stand by their ids",
@@ -107,13 +103,11 @@ T2,25:10:00,25:10:00,S1,1\nT2,25:20:00,25:20:00,S2,2\nT10,25:10:00,25:10:00,S1,3
             ),
         ],
         stop: "S1",
-        events: "C1 90600 T10 90600 3 0\nC1 90600 T2 90600 1 0\n",
-        lanes: Wanted {
-            lists: 1,
-            periods: 0,
-            filled: 0,
-            greatest: 90_600,
-        },
+        given: Passes(
+            "C1 90600 T10 90600 3 0\nC1 90600 T2 90600 1 0\n",
+            Wanted(1, 0, 0, 90_600),
+        ),
+        filled: None,
     },
     Case {
         what: "two services do not share a lane",
@@ -130,13 +124,11 @@ T1,08:00:00,08:00:00,S1,1\nT1,08:10:00,08:10:00,S2,2\nT2,09:00:00,09:00:00,S1,1\
             ),
         ],
         stop: "S1",
-        events: "C1 32400 T2 32400 1 0\nC2 28800 T1 28800 1 0\n",
-        lanes: Wanted {
-            lists: 2,
-            periods: 0,
-            filled: 0,
-            greatest: 32_400,
-        },
+        given: Passes(
+            "C1 32400 T2 32400 1 0\nC2 28800 T1 28800 1 0\n",
+            Wanted(2, 0, 0, 32_400),
+        ),
+        filled: None,
     },
     Case {
         what: "two lists of stops do not share a lane",
@@ -153,13 +145,11 @@ T2,09:00:00,09:00:00,S1,1\nT2,09:10:00,09:10:00,S2,2\nT2,09:20:00,09:20:00,S3,3\
             ),
         ],
         stop: "S1",
-        events: "C1 28800 T1 28800 1 0\nC1 32400 T2 32400 1 0\n",
-        lanes: Wanted {
-            lists: 2,
-            periods: 0,
-            filled: 0,
-            greatest: 32_400,
-        },
+        given: Passes(
+            "C1 28800 T1 28800 1 0\nC1 32400 T2 32400 1 0\n",
+            Wanted(2, 0, 0, 32_400),
+        ),
+        filled: None,
     },
 ];
 
@@ -179,13 +169,8 @@ const STOPPING: &[Case] = &[
 T1,08:00:00,08:00:00,S1,1,\nT1,08:10:00,08:10:00,S2,2,\nT1,08:20:00,08:20:00,S1,3,1\nT1,08:30:00,08:30:00,S1,4,\n",
         )],
         stop: "S1",
-        events: "C1 28800 T1 28800 1 0\n",
-        lanes: Wanted {
-            lists: 1,
-            periods: 0,
-            filled: 0,
-            greatest: 28_800,
-        },
+        given: Passes("C1 28800 T1 28800 1 0\n", Wanted(1, 0, 0, 28_800)),
+        filled: None,
     },
     Case {
         what: "pick-up types 2 and 3 are departures, and so is one without a drop-off",
@@ -195,13 +180,11 @@ T1,08:00:00,08:00:00,S1,1,\nT1,08:10:00,08:10:00,S2,2,\nT1,08:20:00,08:20:00,S1,
 T1,08:00:00,08:00:00,S1,1,2,0\nT1,08:10:00,08:10:00,S1,2,3,1\nT1,08:20:00,08:20:00,S2,3,0,0\n",
         )],
         stop: "S1",
-        events: "C1 28800 T1 28800 1 0\nC1 29400 T1 28800 2 1\n",
-        lanes: Wanted {
-            lists: 2,
-            periods: 0,
-            filled: 0,
-            greatest: 29_400,
-        },
+        given: Passes(
+            "C1 28800 T1 28800 1 0\nC1 29400 T1 28800 2 1\n",
+            Wanted(2, 0, 0, 29_400),
+        ),
+        filled: None,
     },
     Case {
         what: "a trip leaves one stop twice, and its stop times stand in any order",
@@ -211,29 +194,28 @@ T1,08:00:00,08:00:00,S1,1,2,0\nT1,08:10:00,08:10:00,S1,2,3,1\nT1,08:20:00,08:20:
 T1,08:20:00,08:20:00,S2,10\nT1,08:05:00,08:06:00,S1,9\nT1,08:00:00,08:01:00,S1,07\n",
         )],
         stop: "S1",
-        events: "C1 28860 T1 28860 7 0\nC1 29160 T1 28860 9 1\n",
-        lanes: Wanted {
-            lists: 2,
-            periods: 0,
-            filled: 0,
-            greatest: 29_160,
-        },
+        given: Passes(
+            "C1 28860 T1 28860 7 0\nC1 29160 T1 28860 9 1\n",
+            Wanted(2, 0, 0, 29_160),
+        ),
+        filled: None,
     },
     Case {
-        what: "an arrival stands for a departure that is missing, and an untimed stop time is none",
+        what: "an arrival stands for a departure that is missing, and an untimed stop time is filled",
         files: &[(
             "stop_times.txt",
             "trip_id,arrival_time,departure_time,stop_id,stop_sequence\n\
 T1,08:00:00,,S1,1\nT1,,,S1,2\nT1,08:05:00,,S1,3\nT1,08:10:00,08:10:00,S2,4\n",
         )],
         stop: "S1",
-        events: "C1 28800 T1 28800 1 0\nC1 29100 T1 28800 3 2\n",
-        lanes: Wanted {
-            lists: 2,
-            periods: 0,
-            filled: 0,
-            greatest: 29_100,
-        },
+        given: Passes(
+            "C1 28800 T1 28800 1 0\nC1 29100 T1 28800 3 2\n",
+            Wanted(2, 0, 0, 29_100),
+        ),
+        filled: Some(Passes(
+            "C1 28800 T1 28800 1 0\nC1 28950 T1 28800 2 1\nC1 29100 T1 28800 3 2\n",
+            Wanted(2, 0, 1, 29_100),
+        )),
     },
     Case {
         what: "departures of one trip at one second stand by sequence",
@@ -243,13 +225,11 @@ T1,08:00:00,,S1,1\nT1,,,S1,2\nT1,08:05:00,,S1,3\nT1,08:10:00,08:10:00,S2,4\n",
 T1,08:00:00,08:00:00,S1,1\nT1,08:00:00,08:00:00,S1,2\nT1,08:00:00,08:00:00,S2,3\n",
         )],
         stop: "S1",
-        events: "C1 28800 T1 28800 1 0\nC1 28800 T1 28800 2 1\n",
-        lanes: Wanted {
-            lists: 2,
-            periods: 0,
-            filled: 0,
-            greatest: 28_800,
-        },
+        given: Passes(
+            "C1 28800 T1 28800 1 0\nC1 28800 T1 28800 2 1\n",
+            Wanted(2, 0, 0, 28_800),
+        ),
+        filled: None,
     },
 ];
 
@@ -268,13 +248,11 @@ const STATIONS: &[Case] = &[
             ("stop_times.txt", ABOUT_THE_STATION),
         ],
         stop: "S3",
-        events: "C1 28800 T1 28800 1 0\nC1 30000 T1 28800 3 2\n",
-        lanes: Wanted {
-            lists: 2,
-            periods: 0,
-            filled: 0,
-            greatest: 30_000,
-        },
+        given: Passes(
+            "C1 28800 T1 28800 1 0\nC1 30000 T1 28800 3 2\n",
+            Wanted(2, 0, 0, 30_000),
+        ),
+        filled: None,
     },
     Case {
         what: "a platform has its own",
@@ -283,13 +261,8 @@ const STATIONS: &[Case] = &[
             ("stop_times.txt", ABOUT_THE_STATION),
         ],
         stop: "S2",
-        events: "C1 30000 T1 28800 3 2\n",
-        lanes: Wanted {
-            lists: 1,
-            periods: 0,
-            filled: 0,
-            greatest: 30_000,
-        },
+        given: Passes("C1 30000 T1 28800 3 2\n", Wanted(1, 0, 0, 30_000)),
+        filled: None,
     },
     Case {
         what: "an entrance has none",
@@ -298,8 +271,8 @@ const STATIONS: &[Case] = &[
             ("stop_times.txt", ABOUT_THE_STATION),
         ],
         stop: "S4",
-        events: "",
-        lanes: Wanted::NONE,
+        given: Passes("", Wanted::NONE),
+        filled: None,
     },
 ];
 
@@ -313,13 +286,11 @@ const PERIODIC: &[Case] = &[
 T1,06:00:00,07:00:00,1800,0\nT1,07:00:00,08:00:00,1800,1\n",
         )],
         stop: "S1",
-        events: "C1 21600 T1 21600 1 0\nC1 23400 T1 23400 1 0\nC1 25200 T1 25200 1 0\nC1 27000 T1 27000 1 0\n",
-        lanes: Wanted {
-            lists: 0,
-            periods: 2,
-            filled: 0,
-            greatest: 27_000,
-        },
+        given: Passes(
+            "C1 21600 T1 21600 1 0\nC1 23400 T1 23400 1 0\nC1 25200 T1 25200 1 0\nC1 27000 T1 27000 1 0\n",
+            Wanted(0, 2, 0, 27_000),
+        ),
+        filled: None,
     },
     Case {
         what: "a period that ends a second after a run has it",
@@ -328,13 +299,11 @@ T1,06:00:00,07:00:00,1800,0\nT1,07:00:00,08:00:00,1800,1\n",
             "trip_id,start_time,end_time,headway_secs\nT1,06:00:00,06:30:01,1800\n",
         )],
         stop: "S1",
-        events: "C1 21600 T1 21600 1 0\nC1 23400 T1 23400 1 0\n",
-        lanes: Wanted {
-            lists: 0,
-            periods: 1,
-            filled: 0,
-            greatest: 23_400,
-        },
+        given: Passes(
+            "C1 21600 T1 21600 1 0\nC1 23400 T1 23400 1 0\n",
+            Wanted(0, 1, 0, 23_400),
+        ),
+        filled: None,
     },
     Case {
         what: "the greatest headway makes one run",
@@ -343,13 +312,8 @@ T1,06:00:00,07:00:00,1800,0\nT1,07:00:00,08:00:00,1800,1\n",
             "trip_id,start_time,end_time,headway_secs\nT1,00:00:00,999:59:59,2147483647\n",
         )],
         stop: "S1",
-        events: "C1 0 T1 0 1 0\n",
-        lanes: Wanted {
-            lists: 0,
-            periods: 1,
-            filled: 0,
-            greatest: 0,
-        },
+        given: Passes("C1 0 T1 0 1 0\n", Wanted(0, 1, 0, 0)),
+        filled: None,
     },
     Case {
         what: "the last run passes its second stop at the latest second",
@@ -365,13 +329,11 @@ T1,00:00:00,00:00:00,S1,1\nT1,999:59:59,999:59:59,S1,2\nT1,999:59:59,999:59:59,S
             ),
         ],
         stop: "S1",
-        events: "C1 3599998 T1 3599998 1 0\nC1 7199997 T1 3599998 2 1\n",
-        lanes: Wanted {
-            lists: 0,
-            periods: 2,
-            filled: 0,
-            greatest: 7_199_997,
-        },
+        given: Passes(
+            "C1 3599998 T1 3599998 1 0\nC1 7199997 T1 3599998 2 1\n",
+            Wanted(0, 2, 0, 7_199_997),
+        ),
+        filled: None,
     },
     Case {
         what: "runs at one second stand by trip, then by run",
@@ -392,23 +354,17 @@ T2,06:10:00,06:10:00,S1,1\nT2,06:20:00,06:20:00,S2,2\n",
             ),
         ],
         stop: "S1",
-        events: "C1 21600 T1 21600 1 0\nC1 22200 T1 21600 2 1\nC1 22200 T1 22200 1 0\nC1 22200 T2 22200 1 0\n\
+        given: Passes(
+            "C1 21600 T1 21600 1 0\nC1 22200 T1 21600 2 1\nC1 22200 T1 22200 1 0\nC1 22200 T2 22200 1 0\n\
 C1 22800 T1 22200 2 1\n",
-        lanes: Wanted {
-            lists: 1,
-            periods: 2,
-            filled: 0,
-            greatest: 22_800,
-        },
+            Wanted(1, 2, 0, 22_800),
+        ),
+        filled: None,
     },
 ];
 
-/// For each event its service, second, trip, run, sequence and row.
-pub(crate) fn shown(
-    alloc: Global,
-    feed: &Feed,
-    events: &[(ServiceNo, Event)],
-) -> Result<String, Fail> {
+// For each event its service, second, trip, run, sequence and row.
+fn shown(alloc: Global, feed: &Feed, events: &[(ServiceNo, Event)]) -> Result<String, Fail> {
     let mut text = String::new(alloc);
     for (service, event) in events {
         let line = format!(in alloc;
@@ -425,6 +381,32 @@ pub(crate) fn shown(
     Ok(text)
 }
 
+fn assert_passes(
+    rt: &impl Abort,
+    alloc: Global,
+    feed: &Feed,
+    case: &Case,
+    times: Times,
+    wanted: &Passes,
+) -> Result<(), Fail> {
+    let stop = stop_named(rt, feed, case.stop);
+    let events = flat_events(alloc, feed, stop, times)?;
+    let text = shown(alloc, feed, &events)?;
+    let Passes(wanted, lanes) = wanted;
+    assert_is(rt, text.as_str(), *wanted, case.what);
+    assert_lanes(rt, alloc, feed, stop, times, *lanes, case.what)
+}
+
+fn assert_case(rt: &impl Abort, alloc: Global, feed: &Feed, case: &Case) -> Result<(), Fail> {
+    assert_passes(rt, alloc, feed, case, Times::Given, &case.given)?;
+    let filled = match &case.filled {
+        Some(filled) => filled,
+        None => &case.given,
+    };
+    assert_passes(rt, alloc, feed, case, Times::Interpolated, filled)?;
+    assert_unions(rt, alloc, feed)
+}
+
 fn assert_cases<R: Abort + RandomSource>(
     rt: &R,
     alloc: Global,
@@ -437,33 +419,21 @@ fn assert_cases<R: Abort + RandomSource>(
     Ok(())
 }
 
-fn assert_case(rt: &impl Abort, alloc: Global, feed: &Feed, case: &Case) -> Result<(), Fail> {
-    let stop = stop_named(rt, feed, case.stop);
-    let events = flat_events(alloc, feed, stop, Times::Given)?;
-    let text = shown(alloc, feed, &events)?;
-    assert_is(rt, text.as_str(), case.events, case.what);
-    assert_lanes(rt, alloc, feed, stop, Times::Given, case.lanes, case.what)?;
-    assert_unions(rt, alloc, feed)
-}
+const TABLES: [&[Case]; 6] = [
+    LISTED,
+    STOPPING,
+    STATIONS,
+    PERIODIC,
+    timepoints::BESIDE,
+    timepoints::AROUND,
+];
 
 #[test]
-fn trips_without_frequencies_pass_a_stop(rt: HostRuntime) -> Result<(), Fail> {
-    assert_cases(&rt, rt.alloc(), LISTED)
-}
-
-#[test]
-fn a_departure_has_a_time_a_pick_up_and_a_stop_after_it(rt: HostRuntime) -> Result<(), Fail> {
-    assert_cases(&rt, rt.alloc(), STOPPING)
-}
-
-#[test]
-fn a_station_has_what_its_platforms_have(rt: HostRuntime) -> Result<(), Fail> {
-    assert_cases(&rt, rt.alloc(), STATIONS)
-}
-
-#[test]
-fn frequencies_make_runs(rt: HostRuntime) -> Result<(), Fail> {
-    assert_cases(&rt, rt.alloc(), PERIODIC)
+fn trips_pass_a_stop(rt: HostRuntime) -> Result<(), Fail> {
+    for cases in TABLES {
+        assert_cases(&rt, rt.alloc(), cases)?;
+    }
+    Ok(())
 }
 
 #[test]
@@ -493,18 +463,18 @@ fn a_run_each_second_of_a_day_is_one_lane(rt: HostRuntime) -> Result<(), Fail> {
     let frequencies =
         "trip_id,start_time,end_time,headway_secs,exact_times\nT1,00:00:00,24:00:00,1,1\n";
     let feed = feed_with(&rt, rt.alloc(), &[("frequencies.txt", frequencies)])?;
-    assert_each_second(&rt, rt.alloc(), &feed)
+    let stop = stop_named(&rt, &feed, "S1");
+    let events = flat_events(rt.alloc(), &feed, stop, Times::Given)?;
+    assert_is(&rt, events.len(), 86_400, "events");
+    assert_lanes(
+        &rt,
+        rt.alloc(),
+        &feed,
+        stop,
+        Times::Given,
+        EACH_SECOND,
+        "each second",
+    )
 }
 
-fn assert_each_second(rt: &impl Abort, alloc: Global, feed: &Feed) -> Result<(), Fail> {
-    let stop = stop_named(rt, feed, "S1");
-    let events = flat_events(alloc, feed, stop, Times::Given)?;
-    assert_is(rt, events.len(), 86_400, "events");
-    let wanted = Wanted {
-        lists: 0,
-        periods: 1,
-        filled: 0,
-        greatest: 86_399,
-    };
-    assert_lanes(rt, alloc, feed, stop, Times::Given, wanted, "each second")
-}
+const EACH_SECOND: Wanted = Wanted(0, 1, 0, 86_399);

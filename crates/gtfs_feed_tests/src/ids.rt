@@ -5,6 +5,7 @@ use crate::named::{service_id, stop_id, trip_id};
 use gtfs_feed::Feed;
 use gtfs_fixtures::{FileText, feed_with};
 use gtfs_rows::{AgencyNo, RouteNo, ServiceNo, StopNo, TripNo};
+use std::process::Abort;
 use std::test::Fail;
 
 /// Ids of each kind that do not stand by their bytes.
@@ -41,42 +42,81 @@ C2,1,1,1,1,1,1,1,20240401,20240401\nC10,1,1,1,1,1,1,1,20240401,20240401\nC1,1,1,
     ),
 ];
 
-#[test]
-fn stops_are_numbered_by_bytes(rt: HostRuntime) -> Result<(), Fail> {
-    let feed = feed_with(&rt, rt.alloc(), &FILES)?;
-    assert_is(&rt, feed.stop_count(), 4, "stops");
-    for (number, id) in ["S10", "S2", "s1", "\u{e9}"].into_iter().enumerate() {
-        assert_is(&rt, feed.stop(id), Some(StopNo(number)), id);
-        assert_is(&rt, stop_id(&feed, StopNo(number)), id, number);
-    }
-    for id in ["", "S1", "S", "s10", "S2 "] {
-        assert_is(&rt, feed.stop(id), None, id);
-    }
-    Ok(())
+/// A kind of ids.
+#[derive(Clone, Copy)]
+pub(crate) enum Kind {
+    Agency,
+    Stop,
+    Route,
+    Trip,
+    Service,
 }
 
-#[test]
-fn trips_are_numbered_by_bytes(rt: HostRuntime) -> Result<(), Fail> {
-    let feed = feed_with(&rt, rt.alloc(), &FILES)?;
-    assert_is(&rt, feed.trip_count(), 3, "trips");
-    for (number, id) in ["T", "T10", "T2"].into_iter().enumerate() {
-        assert_is(&rt, feed.trip(id), Some(TripNo(number)), id);
-        assert_is(&rt, trip_id(&feed, TripNo(number)), id, number);
-    }
-    assert_is(&rt, feed.trip("T1"), None, "no such trip");
-    Ok(())
+// The ids of a kind by their bytes, and texts that are none.
+struct Ids {
+    kind: Kind,
+    ids: &'static [&'static str],
+    others: &'static [&'static str],
 }
 
-#[test]
-fn services_are_numbered_by_bytes(rt: HostRuntime) -> Result<(), Fail> {
-    let feed = feed_with(&rt, rt.alloc(), &FILES)?;
-    assert_is(&rt, feed.service_count(), 3, "services");
-    for (number, id) in ["C1", "C10", "C2"].into_iter().enumerate() {
-        assert_is(&rt, feed.service(id), Some(ServiceNo(number)), id);
-        assert_is(&rt, service_id(&feed, ServiceNo(number)), id, number);
+const IDS: &[Ids] = &[
+    Ids {
+        kind: Kind::Agency,
+        ids: &["A", "B", "a"],
+        others: &[""],
+    },
+    Ids {
+        kind: Kind::Stop,
+        ids: &["S10", "S2", "s1", "\u{e9}"],
+        others: &["", "S1", "S", "s10", "S2 "],
+    },
+    Ids {
+        kind: Kind::Route,
+        ids: &["R1", "R10", "R2"],
+        others: &["R"],
+    },
+    Ids {
+        kind: Kind::Trip,
+        ids: &["T", "T10", "T2"],
+        others: &["T1"],
+    },
+    Ids {
+        kind: Kind::Service,
+        ids: &["C1", "C10", "C2"],
+        others: &["C"],
+    },
+];
+
+fn count_of(feed: &Feed, kind: Kind) -> usize {
+    match kind {
+        Kind::Agency => feed.agency_count(),
+        Kind::Stop => feed.stop_count(),
+        Kind::Route => feed.route_count(),
+        Kind::Trip => feed.trip_count(),
+        Kind::Service => feed.service_count(),
     }
-    assert_is(&rt, feed.service("C"), None, "no such service");
-    Ok(())
+}
+
+/// The number of an id.
+pub(crate) fn number_of(feed: &Feed, kind: Kind, id: &str) -> Option<usize> {
+    match kind {
+        Kind::Agency => Some(feed.agency(id)?.0),
+        Kind::Stop => Some(feed.stop(id)?.0),
+        Kind::Route => Some(feed.route(id)?.0),
+        Kind::Trip => Some(feed.trip(id)?.0),
+        Kind::Service => Some(feed.service(id)?.0),
+    }
+}
+
+// The id of a number, or a mark where there is none.
+fn id_of(feed: &Feed, kind: Kind, number: usize) -> &str {
+    match kind {
+        Kind::Agency => agency_id(feed, AgencyNo(number)),
+        Kind::Stop => stop_id(feed, StopNo(number)),
+        Kind::Route => route_id(feed, RouteNo(number)),
+        Kind::Trip => trip_id(feed, TripNo(number)),
+        Kind::Service => service_id(feed, ServiceNo(number)),
+    }
 }
 
 // The id of an agency, or a mark where there is none of this number.
@@ -86,18 +126,6 @@ fn agency_id(feed: &Feed, agency: AgencyNo) -> &str {
     } else {
         "no agency"
     }
-}
-
-#[test]
-fn agencies_are_numbered_by_bytes(rt: HostRuntime) -> Result<(), Fail> {
-    let feed = feed_with(&rt, rt.alloc(), &FILES)?;
-    assert_is(&rt, feed.agency_count(), 3, "agencies");
-    for (number, id) in ["A", "B", "a"].into_iter().enumerate() {
-        assert_is(&rt, feed.agency(id), Some(AgencyNo(number)), id);
-        assert_is(&rt, agency_id(&feed, AgencyNo(number)), id, number);
-    }
-    assert_is(&rt, feed.agency(""), None, "no such agency");
-    Ok(())
 }
 
 // The id of a route, or a mark where there is none of this number.
@@ -118,14 +146,23 @@ fn agency_of(feed: &Feed, route: RouteNo) -> &str {
     }
 }
 
+fn assert_ids(rt: &impl Abort, feed: &Feed, ids: &Ids) {
+    assert_is(rt, count_of(feed, ids.kind), ids.ids.len(), "ids");
+    for (number, id) in ids.ids.iter().enumerate() {
+        assert_is(rt, number_of(feed, ids.kind, id), Some(number), *id);
+        assert_is(rt, id_of(feed, ids.kind, number), *id, number);
+    }
+    for other in ids.others {
+        assert_is(rt, number_of(feed, ids.kind, other), None, *other);
+    }
+}
+
 // A route names its agency by its number.
 #[test]
-fn routes_are_numbered_by_bytes(rt: HostRuntime) -> Result<(), Fail> {
+fn ids_are_numbered_by_bytes(rt: HostRuntime) -> Result<(), Fail> {
     let feed = feed_with(&rt, rt.alloc(), &FILES)?;
-    assert_is(&rt, feed.route_count(), 3, "routes");
-    for (number, id) in ["R1", "R10", "R2"].into_iter().enumerate() {
-        assert_is(&rt, feed.route(id), Some(RouteNo(number)), id);
-        assert_is(&rt, route_id(&feed, RouteNo(number)), id, number);
+    for ids in IDS {
+        assert_ids(&rt, &feed, ids);
     }
     for (number, id) in ["B", "a", "A"].into_iter().enumerate() {
         assert_is(&rt, agency_of(&feed, RouteNo(number)), id, number);

@@ -9,23 +9,19 @@ use std::alloc::Global;
 use std::process::Abort;
 use std::test::Fail;
 
-/// How many lanes of each kind there are, and the latest second of an event.
+/// How many lanes there are of lists, of periods and with filled times, and the latest second of
+/// an event.
 #[derive(Clone, Copy, Debug, PartialEq, Eq)]
-pub(crate) struct Wanted {
-    pub(crate) lists: usize,
-    pub(crate) periods: usize,
-    pub(crate) filled: usize,
-    pub(crate) greatest: u32,
-}
+pub(crate) struct Wanted(
+    pub(crate) usize,
+    pub(crate) usize,
+    pub(crate) usize,
+    pub(crate) u32,
+);
 
 impl Wanted {
     /// Of a stop that nothing leaves.
-    pub(crate) const NONE: Wanted = Wanted {
-        lists: 0,
-        periods: 0,
-        filled: 0,
-        greatest: 0,
-    };
+    pub(crate) const NONE: Wanted = Wanted(0, 0, 0, 0);
 }
 
 // Before every event.
@@ -130,12 +126,12 @@ fn lanes_in(
 
 // There are so many lanes of each kind.
 fn assert_wanted(rt: &impl Abort, lanes: &StopLanes, wanted: Wanted, what: &str) {
-    let found = Wanted {
-        lists: lanes.lists().len(),
-        periods: lanes.periods().len(),
-        filled: lanes.filled().len(),
-        greatest: lanes.greatest(),
-    };
+    let found = Wanted(
+        lanes.lists().len(),
+        lanes.periods().len(),
+        lanes.filled().len(),
+        lanes.greatest(),
+    );
     assert_is(rt, found, wanted, what);
 }
 

@@ -5,13 +5,14 @@
 
 use crate::again::{assert_same, assert_same_file, write_tables};
 use crate::assertions::assert_is;
+use crate::ids::{Kind, number_of};
 use crate::lanes::{Wanted, assert_lanes};
 use crate::named::stop_named;
 use crate::trimmed::{Side, assert_others, cut_at};
 use gtfs_feed::Feed;
 use gtfs_field::OutOfMemory;
 use gtfs_fixtures::{read_by_draft, read_feed};
-use gtfs_rows::{AgencyNo, RouteNo, ServiceNo, StopNo, TripNo};
+use gtfs_rows::ServiceNo;
 use gtfs_runs::{Event, Lane, ListLane, Steps, StopLanes, Times, flat_events, patterns};
 use gtfs_table::{File, MemoryFolders};
 use std::alloc::Global;
@@ -117,6 +118,15 @@ fn large_folders(alloc: Global) -> Result<MemoryFolders, Fail> {
     Ok(folders)
 }
 
+// The last id of each kind, with its number.
+const LAST: &[(Kind, &str, usize)] = &[
+    (Kind::Agency, "A169999", 69_999),
+    (Kind::Stop, "S169999", 69_999),
+    (Kind::Route, "R169999", 69_999),
+    (Kind::Service, "C169999", 69_999),
+    (Kind::Trip, "V169999", 209_999),
+];
+
 // Each kind has all its rows, and the last id the last number.
 fn assert_whole(rt: &impl Abort, feed: &Feed) {
     let counts = [
@@ -129,16 +139,9 @@ fn assert_whole(rt: &impl Abort, feed: &Feed) {
     ];
     assert_is(rt, counts, [70_000; 6], "rows");
     assert_is(rt, feed.trip_count(), 210_000, "trips");
-    assert_is(rt, feed.agency("A169999"), Some(AgencyNo(69_999)), "agency");
-    assert_is(rt, feed.stop("S169999"), Some(StopNo(69_999)), "stop");
-    assert_is(rt, feed.route("R169999"), Some(RouteNo(69_999)), "route");
-    assert_is(
-        rt,
-        feed.service("C169999"),
-        Some(ServiceNo(69_999)),
-        "service",
-    );
-    assert_is(rt, feed.trip("V169999"), Some(TripNo(209_999)), "trip");
+    for (kind, id, number) in LAST {
+        assert_is(rt, number_of(feed, *kind, id), Some(*number), *id);
+    }
 }
 
 // The headsigns have the same numbers in both feeds.
@@ -184,34 +187,19 @@ struct Case {
 const CASES: &[Case] = &[
     Case {
         stop: "S100000",
-        lanes: Wanted {
-            lists: 70_000,
-            periods: 0,
-            filled: 0,
-            greatest: 28_800,
-        },
+        lanes: Wanted(70_000, 0, 0, 28_800),
         route: "R100000",
         patterns: 70_000,
     },
     Case {
         stop: "S100001",
-        lanes: Wanted {
-            lists: 0,
-            periods: 70_000,
-            filled: 0,
-            greatest: 23_400,
-        },
+        lanes: Wanted(0, 70_000, 0, 23_400),
         route: "R100001",
         patterns: 70_000,
     },
     Case {
         stop: "S100002",
-        lanes: Wanted {
-            lists: 1,
-            periods: 0,
-            filled: 0,
-            greatest: 32_400,
-        },
+        lanes: Wanted(1, 0, 0, 32_400),
         route: "R100002",
         patterns: 1,
     },

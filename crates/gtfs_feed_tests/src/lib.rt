@@ -5,19 +5,18 @@
 //! - `assertions` has assertions as calls, and `named` the numbers of ids and the ids of numbers.
 //! - `full` is one with a value in every column,
 //!   in texts and orders other than those that are written.
-//! - `ids` has the numbers of ids, `orders` rows in every order, `places` stop times in every place
-//!   of their file, and `rows` what the rows of a feed say.
-//! - `written` has the written form of feeds, and `again` feeds that are written and read again.
-//! - `events` has what passes a stop, by worked cases, and `lanes` walks the lanes of
-//!   each of them; `seeks` asks a lane from positions between its events, and `unions`
-//!   all lanes of each stop together.
+//! - `ids` has the numbers of ids, `places` stop times in every place of their file, and `rows`
+//!   what the rows of a feed say.
+//! - `written` has texts in memory of other bytes, and `again` feeds that are written and read
+//!   again. What is written stands in `tests/cases/merge/written-form/`.
+//! - `events` has what passes a stop, by worked cases, and `timepoints` those at stop times between
+//!   timepoints; `lanes` walks the lanes of each of them; `seeks` asks a lane from positions between
+//!   its events, and `unions` all lanes of each stop together.
 //! - `stop_index` has the departure rows of each stop.
-//! - `timepoints` has what passes a stop at stop times between timepoints,
-//!   under given and under filled times.
 //! - `large` has more rows of each kind than two bytes can number.
 //! - `times` has stop times between timepoints, filled (`gtfs_times`).
 //! - `trimmed` has feeds on one side of a service day.
-//! - `patterns` compares the patterns of a route with those that a slow plain search finds.
+//! - `patterns` has the patterns of a route.
 //!
 //! The worked examples of runs, events and patterns stand in `proofs/`, as lemmas that compute.
 #![tactic(auto)]
@@ -38,8 +37,6 @@ mod lanes;
 mod large;
 #[cfg(test)]
 mod named;
-#[cfg(test)]
-mod orders;
 #[cfg(test)]
 mod patterns;
 #[cfg(test)]

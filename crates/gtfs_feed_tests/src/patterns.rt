@@ -1,10 +1,10 @@
-//! The patterns of a route, beside those that a slow plain search finds.
+//! The patterns of a route, as worked out by hand.
 
 use crate::assertions::assert_is;
 use crate::named::{stop_id, trip_id};
 use gtfs_feed::Feed;
 use gtfs_fixtures::{FileText, feed_with};
-use gtfs_rows::{RouteNo, TripNo};
+use gtfs_rows::RouteNo;
 use gtfs_runs::{Pattern, patterns};
 use std::alloc::Global;
 use std::process::Abort;
@@ -83,73 +83,6 @@ fn push_pattern(feed: &Feed, pattern: &Pattern, text: &mut String) -> Result<(),
     Ok(text.push_str("\n")?)
 }
 
-// The direction and stops of a trip with stop times. A tab is below every character of an id, so
-// these texts ascend as the lists of ids do.
-fn heading(
-    alloc: Global,
-    feed: &Feed,
-    route: RouteNo,
-    trip: TripNo,
-) -> Result<Option<String>, Fail> {
-    if trip.0 >= feed.trip_count() {
-        return Ok(None);
-    }
-    let row = feed.trip_by_number(trip);
-    let stop_times = feed.trip_rows(trip);
-    if row.route_id != route || stop_times.is_empty() {
-        return Ok(None);
-    }
-    let direction = row.direction_id.map(|direction| direction.number());
-    let mut text = String::from_str(alloc, direction_text(direction))?;
-    for stop_time in stop_times {
-        text.push_str(stop_id(feed, stop_time.stop_id))?;
-        text.push_str("\t")?;
-    }
-    Ok(Some(text))
-}
-
-// The headings of a route's trips, each once and ascending.
-fn headings(alloc: Global, feed: &Feed, route: RouteNo) -> Result<Vec<String>, Fail> {
-    let mut headings = Vec::new(alloc);
-    for number in 0..feed.trip_count() {
-        if let Some(heading) = heading(alloc, feed, route, TripNo(number))? {
-            headings.push(heading)?;
-        }
-    }
-    headings.sort_unstable();
-    headings.dedup();
-    Ok(headings)
-}
-
-// Adds a heading, and every trip that has it.
-fn push_slowly(
-    alloc: Global,
-    feed: &Feed,
-    route: RouteNo,
-    wanted: &str,
-    text: &mut String,
-) -> Result<(), Fail> {
-    text.push_str(wanted)?;
-    text.push_str(":")?;
-    for number in 0..feed.trip_count() {
-        let trip = TripNo(number);
-        if heading(alloc, feed, route, trip)?.is_some_and(|found| found.as_str() == wanted) {
-            text.push_str(" ")?;
-            text.push_str(trip_id(feed, trip))?;
-        }
-    }
-    Ok(text.push_str("\n")?)
-}
-
-// The patterns that the search finds.
-fn slowly(alloc: Global, feed: &Feed, route: RouteNo) -> Result<String, Fail> {
-    let mut text = String::new(alloc);
-    for heading in &headings(alloc, feed, route)? {
-        push_slowly(alloc, feed, route, heading.as_str(), &mut text)?;
-    }
-    Ok(text)
-}
-
 // The patterns of the route.
 fn shown(alloc: Global, feed: &Feed, route: RouteNo) -> Result<String, Fail> {
     let mut text = String::new(alloc);
@@ -160,7 +93,7 @@ fn shown(alloc: Global, feed: &Feed, route: RouteNo) -> Result<String, Fail> {
 }
 
 #[test]
-fn patterns_are_those_of_a_slow_search(rt: HostRuntime) -> Result<(), Fail> {
+fn trips_of_one_direction_and_the_same_stops_share_a_pattern(rt: HostRuntime) -> Result<(), Fail> {
     let feed = feed_with(&rt, rt.alloc(), &FILES)?;
     for wanted in WANTED {
         assert_patterns(&rt, rt.alloc(), &feed, wanted)?;
@@ -177,9 +110,6 @@ fn assert_patterns(
     let Some(route) = feed.route(wanted.route) else {
         panic!(rt; "no route {}", wanted.route);
     };
-    let slow = slowly(alloc, feed, route)?;
-    let what = format_args!("slowly, {}", wanted.route);
-    assert_is(rt, slow.as_str(), wanted.patterns, what);
     let found = shown(alloc, feed, route)?;
     assert_is(rt, found.as_str(), wanted.patterns, wanted.route);
     Ok(())

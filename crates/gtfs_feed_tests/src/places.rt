@@ -116,7 +116,20 @@ fn assert_stop_times(rt: &impl Abort, alloc: Global, feed: &Feed, what: &str) ->
     assert_is(rt, feed.parts().stop_times.len(), 7, what);
     let text = feed.file_text(alloc, File::StopTimes)?;
     assert_is(rt, text.as_str(), WRITTEN, what);
+    let headsigns = headsigns_of(alloc, feed)?;
+    assert_is(rt, headsigns.as_str(), "To Pond\nTo Lake\n", what);
     Ok(())
+}
+
+// The headsigns by their numbers, which they have in the order of the trips, and in each by
+// sequence.
+fn headsigns_of(alloc: Global, feed: &Feed) -> Result<String, OutOfMemory> {
+    let mut text = String::new(alloc);
+    for headsign in feed.parts().headsigns.as_slice() {
+        text.push_str(headsign.as_str())?;
+        text.push_str("\n")?;
+    }
+    Ok(text)
 }
 
 #[test]

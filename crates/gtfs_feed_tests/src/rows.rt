@@ -5,7 +5,7 @@ use crate::full::FULL;
 use crate::named::stop_id;
 use gtfs_days::Exception;
 use gtfs_feed::Feed;
-use gtfs_field::{Clock, Day};
+use gtfs_field::{Clock, Coord, Day};
 use gtfs_fixtures::feed_with;
 use gtfs_rows::{
     ExactTimes, Frequency, HeadsignNo, LocationType, OptionalClock, OptionalHeadsign, RouteNo,
@@ -28,7 +28,7 @@ fn headsign_of(feed: &Feed, headsign: OptionalHeadsign) -> &str {
 }
 
 fn seconds(clock: OptionalClock) -> Option<u32> {
-    clock.get().map(|time| time.seconds())
+    Some(clock.get()?.seconds())
 }
 
 // A stop time on a line: its sequence, stop, times, headsign and choices.
@@ -129,6 +129,10 @@ fn a_service_may_have_days_alone(rt: HostRuntime) -> Result<(), Fail> {
     Ok(())
 }
 
+fn units_of(coordinate: Option<Coord>) -> Option<i64> {
+    Some(coordinate?.nanodegrees())
+}
+
 #[test]
 fn a_stop_has_its_values(rt: HostRuntime) -> Result<(), Fail> {
     let feed = feed_with(&rt, rt.alloc(), &FULL)?;
@@ -138,7 +142,7 @@ fn a_stop_has_its_values(rt: HostRuntime) -> Result<(), Fail> {
         panic!(rt; "no name");
     };
     assert_is(&rt, name.as_str(), "Mi ll", "the name");
-    let latitude = stop.stop_lat.map(|latitude| latitude.nanodegrees());
+    let latitude = units_of(stop.stop_lat);
     assert_is(&rt, latitude, Some(-52_500_000_000), "the latitude");
     assert_is(&rt, stop.location_type, LocationType::Stop, "the type");
     assert_is(&rt, stop.parent_station, Some(StopNo(0)), "the parent");

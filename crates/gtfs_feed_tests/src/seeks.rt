@@ -5,7 +5,7 @@ use crate::assertions::{assert_holds, assert_is};
 use crate::named::stop_named;
 use gtfs_feed::Feed;
 use gtfs_fixtures::feed_with;
-use gtfs_runs::{Lane, Seek, StepLane, Steps, StopLanes, Times};
+use gtfs_runs::{Event, Lane, Seek, StepLane, Steps, StopLanes, Times};
 use std::mem::size_of;
 use std::process::Abort;
 use std::test::Fail;
@@ -13,6 +13,12 @@ use std::test::Fail;
 // A second, the id of a trip, a run and a sequence,
 // with the second and the trip of the least event above.
 type Asked = (i64, &'static str, u32, i64, Option<(u32, usize)>);
+
+// The second and the trip of an event.
+fn place_of(event: Option<Event>) -> Option<(u32, usize)> {
+    let event = event?;
+    Some((event.at, event.trip.0))
+}
 
 fn assert_first<L: Lane>(
     rt: &impl Abort,
@@ -29,8 +35,7 @@ fn assert_first<L: Lane>(
             seq: *seq,
         };
         let found = lane.first_after(feed, &seek, steps);
-        let second = found.map(|event| (event.at, event.trip.0));
-        assert_is(rt, second, *wanted, format_args!("{seek:?}"));
+        assert_is(rt, place_of(found), *wanted, format_args!("{seek:?}"));
     }
 }
 
@@ -111,6 +116,12 @@ fn seek_of_run(run: u32) -> Seek<'static> {
     }
 }
 
+// The second and the run of an event.
+fn run_of(event: Option<Event>) -> Option<(u32, u32)> {
+    let event = event?;
+    Some((event.at, event.run))
+}
+
 // A run at each second from 0 to 3,599,998.
 // A lane that walked over its runs would look at 3,000,000,000,000 of them.
 #[test]
@@ -126,8 +137,7 @@ fn a_trip_of_3_599_999_runs_is_one_small_lane(rt: HostRuntime) -> Result<(), Fai
     assert_holds(&rt, size_of::<StepLane>() <= 64, "a small lane");
     for run in 2_599_998..3_599_998 {
         let found = lane.first_after(&feed, &seek_of_run(run), &mut steps);
-        let second = found.map(|event| (event.at, event.run));
-        assert_is(&rt, second, Some((run + 1, run + 1)), run);
+        assert_is(&rt, run_of(found), Some((run + 1, run + 1)), run);
     }
     let found = lane.first_after(&feed, &seek_of_run(3_599_998), &mut steps);
     assert_is(&rt, found, None, "after the last run");

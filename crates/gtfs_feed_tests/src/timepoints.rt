@@ -1,38 +1,16 @@
 //! What passes a stop at stop times between timepoints: under given times, and under filled ones.
 
-use crate::assertions::assert_is;
-use crate::events::shown;
+use crate::events::{Case, Passes};
 use crate::lanes::{Wanted, assert_lanes};
 use crate::named::stop_named;
-use crate::unions::assert_unions;
-use gtfs_feed::Feed;
-use gtfs_fixtures::{FEED, FileText, feed_with, read_feed};
-use gtfs_runs::{Times, flat_events};
+use gtfs_fixtures::{FEED, FileText, read_feed};
+use gtfs_runs::Times;
 use gtfs_table::MemoryFolders;
 use std::alloc::Global;
 use std::hash::RandomState;
-use std::process::Abort;
 use std::test::Fail;
 
-// What passes the stop, as [`shown`], and its lanes.
-struct Passes {
-    events: &'static str,
-    lanes: Wanted,
-}
-
-// A change to the small dataset, and what passes a stop then under both times.
-struct Case {
-    what: &'static str,
-    files: &'static [FileText],
-    stop: &'static str,
-    given: Passes,
-    filled: Passes,
-}
-
-const NOTHING: Passes = Passes {
-    events: "",
-    lanes: Wanted::NONE,
-};
+const NOTHING: Passes = Passes("", Wanted::NONE);
 
 // T1 leaves S2 before T2 does, and S1 after it.
 const CROSSING: &[FileText] = &[
@@ -51,76 +29,40 @@ T2,08:10:00,08:10:00,S2,1\nT2,08:12:00,08:12:00,S1,2\nT2,08:20:00,08:20:00,S3,3\
 const TWO_BETWEEN: &str = "trip_id,arrival_time,departure_time,stop_id,stop_sequence\n\
 T1,08:00:00,08:00:00,S1,1\nT1,,,S3,2\nT1,,,S1,5\nT1,08:10:01,08:10:01,S2,9\n";
 
-// Of a filled time beside given ones.
-const LISTED: &[Case] = &[
+/// A filled time beside given ones.
+pub(crate) const BESIDE: &[Case] = &[
     Case {
         what: "one lane has the filled time of a trip and the given one of another, by time",
         files: CROSSING,
         stop: "S1",
-        given: Passes {
-            events: "C1 29520 T2 29400 2 1\n",
-            lanes: Wanted {
-                lists: 1,
-                periods: 0,
-                filled: 0,
-                greatest: 29_520,
-            },
-        },
-        filled: Passes {
-            events: "C1 29520 T2 29400 2 1\nC1 30600 T1 28800 2 1\n",
-            lanes: Wanted {
-                lists: 0,
-                periods: 0,
-                filled: 1,
-                greatest: 30_600,
-            },
-        },
+        given: Passes("C1 29520 T2 29400 2 1\n", Wanted(1, 0, 0, 29_520)),
+        filled: Some(Passes(
+            "C1 29520 T2 29400 2 1\nC1 30600 T1 28800 2 1\n",
+            Wanted(0, 0, 1, 30_600),
+        )),
     },
     Case {
         what: "the lane of another position has given times alone",
         files: CROSSING,
         stop: "S2",
-        given: Passes {
-            events: "C1 28800 T1 28800 1 0\nC1 29400 T2 29400 1 0\n",
-            lanes: Wanted {
-                lists: 1,
-                periods: 0,
-                filled: 0,
-                greatest: 29_400,
-            },
-        },
-        filled: Passes {
-            events: "C1 28800 T1 28800 1 0\nC1 29400 T2 29400 1 0\n",
-            lanes: Wanted {
-                lists: 1,
-                periods: 0,
-                filled: 0,
-                greatest: 29_400,
-            },
-        },
+        given: Passes(
+            "C1 28800 T1 28800 1 0\nC1 29400 T2 29400 1 0\n",
+            Wanted(1, 0, 0, 29_400),
+        ),
+        filled: Some(Passes(
+            "C1 28800 T1 28800 1 0\nC1 29400 T2 29400 1 0\n",
+            Wanted(1, 0, 0, 29_400),
+        )),
     },
     Case {
         what: "two positions on the way from 08:00:00 to 08:10:01",
         files: &[("stop_times.txt", TWO_BETWEEN)],
         stop: "S1",
-        given: Passes {
-            events: "C1 28800 T1 28800 1 0\n",
-            lanes: Wanted {
-                lists: 1,
-                periods: 0,
-                filled: 0,
-                greatest: 28_800,
-            },
-        },
-        filled: Passes {
-            events: "C1 28800 T1 28800 1 0\nC1 29200 T1 28800 5 2\n",
-            lanes: Wanted {
-                lists: 1,
-                periods: 0,
-                filled: 1,
-                greatest: 29_200,
-            },
-        },
+        given: Passes("C1 28800 T1 28800 1 0\n", Wanted(1, 0, 0, 28_800)),
+        filled: Some(Passes(
+            "C1 28800 T1 28800 1 0\nC1 29200 T1 28800 5 2\n",
+            Wanted(1, 0, 1, 29_200),
+        )),
     },
     Case {
         what: "three positions within a second have its beginning, and a lane each",
@@ -131,15 +73,10 @@ T1,00:00:00,00:00:00,S2,1\nT1,,,S1,2\nT1,,,S1,3\nT1,,,S1,4\nT1,00:00:01,00:00:01
         )],
         stop: "S1",
         given: NOTHING,
-        filled: Passes {
-            events: "C1 0 T1 0 2 1\nC1 0 T1 0 3 2\nC1 0 T1 0 4 3\n",
-            lanes: Wanted {
-                lists: 0,
-                periods: 0,
-                filled: 3,
-                greatest: 0,
-            },
-        },
+        filled: Some(Passes(
+            "C1 0 T1 0 2 1\nC1 0 T1 0 3 2\nC1 0 T1 0 4 3\n",
+            Wanted(0, 0, 3, 0),
+        )),
     },
     Case {
         what: "a row of frequencies.txt has a lane at each position, filled or not",
@@ -151,29 +88,16 @@ T1,00:00:00,00:00:00,S2,1\nT1,,,S1,2\nT1,,,S1,3\nT1,,,S1,4\nT1,00:00:01,00:00:01
             ),
         ],
         stop: "S1",
-        given: Passes {
-            events: "C1 21600 T1 21600 1 0\n",
-            lanes: Wanted {
-                lists: 0,
-                periods: 1,
-                filled: 0,
-                greatest: 21_600,
-            },
-        },
-        filled: Passes {
-            events: "C1 21600 T1 21600 1 0\nC1 22000 T1 21600 5 2\n",
-            lanes: Wanted {
-                lists: 0,
-                periods: 2,
-                filled: 0,
-                greatest: 22_000,
-            },
-        },
+        given: Passes("C1 21600 T1 21600 1 0\n", Wanted(0, 1, 0, 21_600)),
+        filled: Some(Passes(
+            "C1 21600 T1 21600 1 0\nC1 22000 T1 21600 5 2\n",
+            Wanted(0, 2, 0, 22_000),
+        )),
     },
 ];
 
-// Of the stop times around a filled one.
-const AROUND: &[Case] = &[
+/// The stop times around a filled one.
+pub(crate) const AROUND: &[Case] = &[
     Case {
         what: "from a departure to an arrival",
         files: &[(
@@ -183,15 +107,7 @@ T1,08:00:00,08:01:00,S2,1\nT1,,,S1,2\nT1,08:03:00,08:10:00,S2,3\n",
         )],
         stop: "S1",
         given: NOTHING,
-        filled: Passes {
-            events: "C1 28920 T1 28860 2 1\n",
-            lanes: Wanted {
-                lists: 0,
-                periods: 0,
-                filled: 1,
-                greatest: 28_920,
-            },
-        },
+        filled: Some(Passes("C1 28920 T1 28860 2 1\n", Wanted(0, 0, 1, 28_920))),
     },
     Case {
         what: "from an arrival alone to a departure alone",
@@ -202,15 +118,7 @@ T1,08:00:00,,S2,1\nT1,,,S1,2\nT1,,08:10:00,S2,3\n",
         )],
         stop: "S1",
         given: NOTHING,
-        filled: Passes {
-            events: "C1 29100 T1 28800 2 1\n",
-            lanes: Wanted {
-                lists: 0,
-                periods: 0,
-                filled: 1,
-                greatest: 29_100,
-            },
-        },
+        filled: Some(Passes("C1 29100 T1 28800 2 1\n", Wanted(0, 0, 1, 29_100))),
     },
     Case {
         what: "from a stop time without a pick-up",
@@ -221,15 +129,7 @@ T1,08:00:00,08:00:00,S2,1,0\nT1,08:10:00,08:10:00,S2,2,1\nT1,,,S1,3,\nT1,08:20:0
         )],
         stop: "S1",
         given: NOTHING,
-        filled: Passes {
-            events: "C1 29700 T1 28800 3 2\n",
-            lanes: Wanted {
-                lists: 0,
-                periods: 0,
-                filled: 1,
-                greatest: 29_700,
-            },
-        },
+        filled: Some(Passes("C1 29700 T1 28800 3 2\n", Wanted(0, 0, 1, 29_700))),
     },
     Case {
         what: "a filled stop time without a pick-up is no departure",
@@ -240,7 +140,7 @@ T1,08:00:00,08:00:00,S2,1,0\nT1,,,S1,2,1\nT1,08:20:00,08:20:00,S2,3,0\n",
         )],
         stop: "S1",
         given: NOTHING,
-        filled: NOTHING,
+        filled: None,
     },
     Case {
         what: "a station has the filled departures of its platforms",
@@ -258,56 +158,9 @@ T1,25:00:00,25:00:00,S2,1\nT1,,,S1,2\nT1,25:00:03,25:00:03,S2,3\n",
         ],
         stop: "S3",
         given: NOTHING,
-        filled: Passes {
-            events: "C1 90001 T1 90000 2 1\n",
-            lanes: Wanted {
-                lists: 0,
-                periods: 0,
-                filled: 1,
-                greatest: 90_001,
-            },
-        },
+        filled: Some(Passes("C1 90001 T1 90000 2 1\n", Wanted(0, 0, 1, 90_001))),
     },
 ];
-
-fn assert_passes(
-    rt: &impl Abort,
-    alloc: Global,
-    feed: &Feed,
-    case: &Case,
-    times: Times,
-    wanted: &Passes,
-) -> Result<(), Fail> {
-    let stop = stop_named(rt, feed, case.stop);
-    let events = flat_events(alloc, feed, stop, times)?;
-    let text = shown(alloc, feed, &events)?;
-    assert_is(rt, text.as_str(), wanted.events, case.what);
-    assert_lanes(rt, alloc, feed, stop, times, wanted.lanes, case.what)
-}
-
-fn assert_case(rt: &impl Abort, alloc: Global, feed: &Feed, case: &Case) -> Result<(), Fail> {
-    assert_passes(rt, alloc, feed, case, Times::Given, &case.given)?;
-    assert_passes(rt, alloc, feed, case, Times::Interpolated, &case.filled)?;
-    assert_unions(rt, alloc, feed)
-}
-
-#[test]
-fn filled_times_stand_beside_given_ones(rt: HostRuntime) -> Result<(), Fail> {
-    for case in LISTED {
-        let feed = feed_with(&rt, rt.alloc(), case.files)?;
-        assert_case(&rt, rt.alloc(), &feed, case)?;
-    }
-    Ok(())
-}
-
-#[test]
-fn the_stop_times_around_make_the_time(rt: HostRuntime) -> Result<(), Fail> {
-    for case in AROUND {
-        let feed = feed_with(&rt, rt.alloc(), case.files)?;
-        assert_case(&rt, rt.alloc(), &feed, case)?;
-    }
-    Ok(())
-}
 
 // Two bytes number 65,536.
 const COUNT: u32 = 70_000;
@@ -342,12 +195,7 @@ fn a_long_trip_has_a_filled_lane_at_each_position(rt: HostRuntime) -> Result<(),
     let random = RandomState::new(&rt)?;
     let feed = read_feed(rt.alloc(), random, &mut folders, "f1")?;
     let stop = stop_named(&rt, &feed, "S1");
-    let wanted = Wanted {
-        lists: 0,
-        periods: 0,
-        filled: 70_000,
-        greatest: 3_599_947,
-    };
+    let wanted = Wanted(0, 0, 70_000, 3_599_947);
     assert_lanes(
         &rt,
         rt.alloc(),

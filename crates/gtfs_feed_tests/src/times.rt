@@ -1,6 +1,6 @@
 //! Stop times between timepoints, filled.
 
-use crate::assertions::{assert_holds, assert_is};
+use crate::assertions::assert_is;
 use gtfs_field::{Clock, OutOfMemory};
 use gtfs_rows::{DropOffType, OptionalClock, OptionalHeadsign, PickupType, StopNo, StopRow};
 use gtfs_times::{Times, filled, is_to_fill};
@@ -90,7 +90,7 @@ fn clock(seconds: Option<u32>) -> OptionalClock {
 }
 
 fn seconds(clock: OptionalClock) -> Option<u32> {
-    clock.get().map(|clock| clock.seconds())
+    Some(clock.get()?.seconds())
 }
 
 fn stop_time(stop_sequence: u32, pair: &Pair) -> StopRow {
@@ -145,6 +145,10 @@ fn stop_times_are_filled(rt: HostRuntime) -> Result<(), Fail> {
     Ok(())
 }
 
+fn departure_at(rows: &[StopRow], index: usize) -> Option<u32> {
+    seconds(rows.get(index)?.departure_time)
+}
+
 // A body that looks for the next time anew at each stop time would take minutes.
 #[test]
 fn many_stop_times_are_filled_at_once(rt: HostRuntime) -> Result<(), Fail> {
@@ -154,17 +158,9 @@ fn many_stop_times_are_filled_at_once(rt: HostRuntime) -> Result<(), Fail> {
     rows.resize(COUNT, stop_time(1, &NONE))?;
     rows.push(stop_time(2, &(Some(3_599_999), Some(3_599_999))))?;
     let found = filled(rt.alloc(), &rows)?;
-    let middle = found
-        .get(COUNT / 2)
-        .and_then(|row| seconds(row.departure_time));
-    assert_is(
-        &rt,
-        middle,
-        Some(1_799_999),
-        "the middle of 400,001 stop times",
-    );
-    let early = found.get(1).and_then(|row| seconds(row.departure_time));
-    assert_is(&rt, early, Some(8), "the second of 400,001 stop times");
-    assert_holds(&rt, found.len() == COUNT + 1, "400,001 stop times");
+    for (index, wanted) in [(1, Some(8)), (COUNT / 2, Some(1_799_999))] {
+        assert_is(&rt, departure_at(&found, index), wanted, index);
+    }
+    assert_is(&rt, found.len(), COUNT + 1, "stop times");
     Ok(())
 }

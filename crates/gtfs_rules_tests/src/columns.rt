@@ -15,114 +15,146 @@ use std::alloc::Global;
 use std::process::Abort;
 use std::test::Fail;
 
-#[test]
-fn times_and_days_are_read(rt: HostRuntime) {
-    for (text, seconds) in [
-        ("7:05:00", 25_500),
-        ("08:00:00", 28_800),
-        ("999:59:59", 3_599_999),
-    ] {
-        let time = Some(i64::from(seconds));
-        let clock = seconds_of(values::clock(text));
-        assert_case(&rt, values::seconds(text), Some(seconds), "seconds", text);
-        assert_case(&rt, values::time(text), time, "time", text);
-        assert_case(&rt, clock, Some(seconds), "clock", text);
-    }
-    for text in ["1000:00:00", "08:60:00", ""] {
-        assert_case(&rt, values::seconds(text), None, "seconds", text);
-        assert_case(&rt, values::time(text), None, "time", text);
-        assert_case(&rt, seconds_of(values::clock(text)), None, "clock", text);
-    }
-    for (text, number) in [
-        ("19700102", 1),
-        ("20240229", 19_782),
-        ("99991231", 2_932_896),
-    ] {
-        let date = Some(i64::from(number));
-        assert_case(&rt, values::date(text), date, "date", text);
-        assert_case(&rt, number_of(values::day(text)), Some(number), "day", text);
-    }
-    for text in ["20230229", "18991231", "2024-02-29", ""] {
-        assert_case(&rt, values::date(text), None, "date", text);
-        assert_case(&rt, number_of(values::day(text)), None, "day", text);
+// A call that reads the value of a text.
+#[derive(Clone, Copy)]
+enum Call {
+    Seconds,
+    Time,
+    Clock,
+    Date,
+    Day,
+    Count,
+    RouteType,
+    LocationType,
+    Colour,
+    Latitude,
+    Longitude,
+}
+
+// The number of the value that a call reads, where there is one.
+fn number_of(call: Call, text: &str) -> Option<i64> {
+    match call {
+        Call::Seconds => wide(values::seconds(text)),
+        Call::Time => values::time(text),
+        Call::Clock => seconds_of(values::clock(text)),
+        Call::Date => values::date(text),
+        Call::Day => days_of(values::day(text)),
+        Call::Count => wide(values::count(text)),
+        Call::RouteType => wide(values::choice(&[(0, 7), (11, 12), (100, 1799)], text)),
+        Call::LocationType => values::choice_or(&[(0, 4)], "0", text),
+        Call::Colour => bits_of(values::colour(text)),
+        Call::Latitude => units_of(values::coordinate(Axis::Latitude, text)),
+        Call::Longitude => units_of(values::coordinate(Axis::Longitude, text)),
     }
 }
 
-// The seconds of a time that was read.
-fn seconds_of(clock: Option<Clock>) -> Option<u32> {
-    Some(clock?.seconds())
+fn wide(number: Option<u32>) -> Option<i64> {
+    Some(i64::from(number?))
 }
 
-// The number of a day that was read.
-fn number_of(day: Option<Day>) -> Option<i32> {
-    Some(day?.number())
+fn seconds_of(clock: Option<Clock>) -> Option<i64> {
+    Some(i64::from(clock?.seconds()))
 }
 
-// The bits of a colour that was read.
-fn bits_of(colour: Option<Colour>) -> Option<u32> {
-    Some(colour?.bits())
+fn days_of(day: Option<Day>) -> Option<i64> {
+    Some(i64::from(day?.number()))
 }
 
-// The nanodegrees of a coordinate that was read.
+fn bits_of(colour: Option<Colour>) -> Option<i64> {
+    Some(i64::from(colour?.bits()))
+}
+
 fn units_of(coord: Option<Coord>) -> Option<i64> {
     Some(coord?.nanodegrees())
 }
 
+// Texts, each with the number of its value.
+type Texts = &'static [(&'static str, Option<i64>)];
+
+const TIMES: Texts = &[
+    ("7:05:00", Some(25_500)),
+    ("08:00:00", Some(28_800)),
+    ("999:59:59", Some(3_599_999)),
+    ("1000:00:00", None),
+    ("08:60:00", None),
+    ("", None),
+];
+
+const DATES: Texts = &[
+    ("19700102", Some(1)),
+    ("20240229", Some(19_782)),
+    ("99991231", Some(2_932_896)),
+    ("20230229", None),
+    ("18991231", None),
+    ("2024-02-29", None),
+    ("", None),
+];
+
+const COUNTS: Texts = &[
+    ("007", Some(7)),
+    ("2147483647", Some(2_147_483_647)),
+    ("2147483648", None),
+];
+
+const LATITUDES: Texts = &[
+    ("52.1234567899", Some(52_123_456_789)),
+    ("-0.0000000001", Some(0)),
+    ("90.0000000001", Some(90_000_000_000)),
+    ("90.000000001", None),
+    (".5", Some(500_000_000)),
+    ("5.", Some(5_000_000_000)),
+    ("1e1", None),
+    ("-", None),
+    ("", None),
+];
+
+// What each call reads.
+const READ: &[(Call, Texts)] = &[
+    (Call::Seconds, TIMES),
+    (Call::Time, TIMES),
+    (Call::Clock, TIMES),
+    (Call::Date, DATES),
+    (Call::Day, DATES),
+    (Call::Count, COUNTS),
+    (Call::RouteType, &[("11", Some(11)), ("8", None)]),
+    (
+        Call::LocationType,
+        &[("", Some(0)), ("3", Some(3)), ("5", None)],
+    ),
+    (
+        Call::Colour,
+        &[("00ff7f", Some(0x00_FF7F)), ("00ff7", None)],
+    ),
+    (Call::Latitude, LATITUDES),
+    (Call::Longitude, &[("180", Some(180_000_000_000))]),
+];
+
 #[test]
-fn numbers_are_read(rt: HostRuntime) {
-    for (text, count) in [
-        ("007", Some(7)),
-        ("2147483647", Some(2_147_483_647)),
-        ("2147483648", None),
-    ] {
-        assert_case(&rt, values::count(text), count, "count", text);
-    }
-    for (text, choice) in [("11", Some(11)), ("8", None)] {
-        let found = values::choice(&[(0, 7), (11, 12)], text);
-        assert_case(&rt, found, choice, "choice", text);
-    }
-    for (text, choice) in [("", Some(0)), ("3", Some(3)), ("5", None)] {
-        let found = values::choice_or(&[(0, 4)], "0", text);
-        assert_case(&rt, found, choice, "choice or 0", text);
-    }
-    for (text, bits) in [("00ff7f", Some(0x00_FF7F)), ("00ff7", None)] {
-        let found = bits_of(values::colour(text));
-        assert_case(&rt, found, bits, "colour", text);
+fn values_are_read(rt: HostRuntime) {
+    for (call, texts) in READ {
+        assert_reads(&rt, *call, texts);
     }
 }
 
-#[test]
-fn coordinates_are_read(rt: HostRuntime) {
-    let latitudes = [
-        ("52.1234567899", Some(52_123_456_789)),
-        ("-0.0000000001", Some(0)),
-        ("90.0000000001", Some(90_000_000_000)),
-        ("90.000000001", None),
-        (".5", Some(500_000_000)),
-        ("5.", Some(5_000_000_000)),
-        ("1e1", None),
-        ("-", None),
-        ("", None),
-    ];
-    for (text, units) in latitudes {
-        let read = values::coordinate(Axis::Latitude, text);
-        assert_case(&rt, units_of(read), units, "latitude", text);
+fn assert_reads(rt: &impl Abort, call: Call, texts: &[(&str, Option<i64>)]) {
+    for (text, wanted) in texts {
+        let case = (call as u32, *text);
+        assert_case(rt, number_of(call, text), *wanted, "number", case);
     }
-    let east = values::coordinate(Axis::Longitude, "180");
-    assert_is(&rt, units_of(east), Some(180_000_000_000), "longitude 180");
 }
 
 #[test]
 fn texts_are_read(rt: HostRuntime) {
-    assert_is(&rt, values::id("S1"), Some("S1"), "id S1");
-    assert_is(&rt, values::id("S\t1"), None, "an id with a tab");
-    assert_is(&rt, values::id(""), None, "an empty id");
-    assert!(rt; values::is_id("S1"));
-    assert!(rt; !values::is_id(""));
-    assert_is(&rt, values::meant("0", ""), "0", "an empty text");
-    assert_is(&rt, values::meant("0", "1"), "1", "a text");
-    assert!(rt; has_control("\u{7f}"));
-    assert!(rt; !has_control("Mill Road"));
+    for (text, id) in [("S1", Some("S1")), ("S\t1", None), ("", None)] {
+        assert_case(&rt, values::id(text), id, "id", text);
+        assert_case(&rt, values::is_id(text), id.is_some(), "an id", text);
+    }
+    for (text, meant) in [("", "0"), ("1", "1")] {
+        assert_case(&rt, values::meant("0", text), meant, "meaning", text);
+    }
+    for (text, is_so) in [("\u{7f}", true), ("Mill Road", false)] {
+        assert_case(&rt, has_control(text), is_so, "control character", text);
+    }
 }
 
 #[test]
@@ -149,29 +181,23 @@ fn assert_passes(rt: &impl Abort, alloc: Global, tables: &Tables) -> Result<(), 
     Ok(())
 }
 
-// The values of the first row of each file.
-fn assert_first_rows(rt: &impl Abort, passed: &Passed<'_>) {
-    let stop_id = values::id(first_value(passed, File::Stops, "stop_id"));
-    assert_is(rt, stop_id, Some("S1"), "stop_id");
-    let location_type = first_value(passed, File::Stops, "location_type");
-    let location_type = values::choice_or(&[(0, 4)], "0", location_type);
-    assert_is(rt, location_type, Some(0), "location_type");
-    let route_type = first_value(passed, File::Routes, "route_type");
-    let route_type = values::choice(&[(0, 7), (11, 12), (100, 1799)], route_type);
-    assert_is(rt, route_type, Some(3), "route_type");
-    let sequence = values::count(first_value(passed, File::StopTimes, "stop_sequence"));
-    assert_is(rt, sequence, Some(1), "stop_sequence");
-    let start = values::clock(first_value(passed, File::Frequencies, "start_time"));
-    assert_is(rt, seconds_of(start), Some(21_600), "start_time");
-    let first_day = values::day(first_value(passed, File::Calendar, "start_date"));
-    assert_is(rt, number_of(first_day), Some(19_814), "start_date");
-    let colour = values::colour(first_value(passed, File::Routes, "route_color"));
-    assert_is(rt, bits_of(colour), None, "route_color");
-}
+// Columns of the first rows, with the call that reads them. Not all have a value.
+const FIRST_ROWS: &[(File, &str, Call, Option<i64>)] = &[
+    (File::Stops, "location_type", Call::LocationType, Some(0)),
+    (File::Routes, "route_type", Call::RouteType, Some(3)),
+    (File::Routes, "route_color", Call::Colour, None),
+    (File::StopTimes, "stop_sequence", Call::Count, Some(1)),
+    (File::Frequencies, "start_time", Call::Clock, Some(21_600)),
+    (File::Calendar, "start_date", Call::Day, Some(19_814)),
+];
 
-// The text of a column in the first row of a file, and the empty text where the file has no row.
-fn first_value<'a>(passed: &Passed<'a>, file: File, column: &str) -> &'a str {
-    passed.tables().value(file, 2, column)
+fn assert_first_rows(rt: &impl Abort, passed: &Passed<'_>) {
+    let stop_id = passed.tables().value(File::Stops, 2, "stop_id");
+    assert_is(rt, values::id(stop_id), Some("S1"), "stop_id");
+    for (file, column, call, wanted) in FIRST_ROWS {
+        let text = passed.tables().value(*file, 2, column);
+        assert_case(rt, number_of(*call, text), *wanted, "first row", *column);
+    }
 }
 
 // A frequency of the trip of the small feed.
@@ -192,9 +218,10 @@ fn stop_id_column(empty: Empty) -> Column {
 fn a_text_has_one_code_under_a_column(rt: HostRuntime) {
     let required = stop_id_column(Empty::Refused);
     let optional = stop_id_column(Empty::Nothing);
-    assert!(rt; is_required(&required));
-    assert!(rt; !is_required(&optional));
-    assert!(rt; !is_required(&stop_id_column(Empty::Means("0"))));
+    let meaning = stop_id_column(Empty::Means("0"));
+    for (column, is_so) in [(&required, true), (&optional, false), (&meaning, false)] {
+        assert_case(&rt, is_required(column), is_so, "required", is_so);
+    }
     for (is_named, column, text, code) in [
         (true, &required, "", Some(Code::E06)),
         (false, &required, "", None),
@@ -277,8 +304,9 @@ fn assert_types(rt: &impl Abort, types: &[Option<i64>]) {
     ] {
         assert_case(rt, type_of(types, row), location_type, "type", row);
     }
-    assert!(rt; is_one_of(&[0, 2, 3], 2));
-    assert!(rt; !is_one_of(&[0, 2, 3], 1));
+    for (number, is_so) in [(2, true), (1, false)] {
+        assert_case(rt, is_one_of(&[0, 2, 3], number), is_so, "one of", number);
+    }
 }
 
 fn problem(
@@ -312,7 +340,20 @@ fn problems_that_were_found_are_put_in_order(rt: HostRuntime) -> Result<(), Fail
     found.report_if(problem(trips, 4, Code::E06, "trip_id"), false)?;
     let sorted = found.into_sorted();
     assert!(rt; sorted.as_slice() == wanted.as_slice());
-    assert!(rt; Code::E20.is_error());
-    assert!(rt; !Code::W01.is_error());
     Ok(())
+}
+
+const NAMES: [&str; 28] = [
+    "E01", "E02", "E03", "E04", "E05", "E06", "E07", "E08", "E09", "E10", "E11", "E12", "E13",
+    "E14", "E15", "E16", "E17", "E18", "E19", "E20", "W01", "W02", "W03", "W04", "W05", "W06",
+    "W07", "W08",
+];
+
+#[test]
+fn all_codes_stand_in_order(rt: HostRuntime) {
+    for (code, name) in Code::all().into_iter().zip(NAMES) {
+        assert_case(&rt, code.name(), name, "name", name);
+        let is_error = name.starts_with('E');
+        assert_case(&rt, code.is_error(), is_error, "error", name);
+    }
 }

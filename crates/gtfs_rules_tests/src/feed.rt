@@ -8,22 +8,20 @@ use std::alloc::Global;
 pub(crate) type FileLines = (&'static str, &'static [&'static str]);
 
 // The headers of the small feed.
-pub(crate) const AGENCY: &str = "agency_name,agency_url,agency_timezone";
+const AGENCY: &str = "agency_name,agency_url,agency_timezone";
 
 pub(crate) const STOPS: &str = "stop_id,stop_name,stop_lat,stop_lon";
 
-pub(crate) const ROUTES: &str = "route_id,route_short_name,route_type";
+const ROUTES: &str = "route_id,route_short_name,route_type";
 
 pub(crate) const TRIPS: &str = "route_id,service_id,trip_id";
 
 pub(crate) const STOP_TIMES: &str = "trip_id,arrival_time,departure_time,stop_id,stop_sequence";
 
-pub(crate) const CALENDAR: &str =
+const CALENDAR: &str =
     "service_id,monday,tuesday,wednesday,thursday,friday,saturday,sunday,start_date,end_date";
 
-// The headers of files that the small feed lacks.
-pub(crate) const CALENDAR_DATES: &str = "service_id,date,exception_type";
-
+// The header of a file that the small feed lacks.
 pub(crate) const FREQUENCIES: &str = "trip_id,start_time,end_time,headway_secs";
 
 // The stops of the small feed, and the two rows of its trip.
@@ -33,19 +31,9 @@ pub(crate) const LAKE: &str = "S2,Lake,52.6,13.5";
 
 pub(crate) const HILL: &str = "S3,Hill,52.7,13.6";
 
-pub(crate) const AT_MILL: &str = "T1,08:00:00,08:00:00,S1,1";
+const AT_MILL: &str = "T1,08:00:00,08:00:00,S1,1";
 
-pub(crate) const AT_LAKE: &str = "T1,08:10:00,08:10:00,S2,2";
-
-// Agencies with ids, and a route of the first of them.
-pub(crate) const AGENCIES: &str = "agency_id,agency_name,agency_url,agency_timezone";
-
-pub(crate) const ROUTES_OF_AGENCIES: &str = "route_id,agency_id,route_short_name,route_type";
-
-pub(crate) const ROUTE_OF_A1: &str = "R1,A1,10,3";
-
-// A row of calendar.txt that runs on no weekday.
-pub(crate) const NO_WEEKDAY: &str = "C1,0,0,0,0,0,0,0,20240401,20240401";
+const AT_LAKE: &str = "T1,08:10:00,08:10:00,S2,2";
 
 /// One agency, three stops, one route, and one trip on 1 April 2024.
 pub(crate) const FEED: [FileLines; 6] = [
@@ -60,8 +48,8 @@ pub(crate) const FEED: [FileLines; 6] = [
     ),
 ];
 
-/// A text of lines, each with its end.
-pub(crate) fn text_of(alloc: Global, lines: &[&str]) -> Result<String, OutOfMemory> {
+// A text of lines, each with its end.
+fn text_of(alloc: Global, lines: &[&str]) -> Result<String, OutOfMemory> {
     let mut text = String::new(alloc);
     for line in lines {
         text.push_str(line)?;
@@ -70,8 +58,8 @@ pub(crate) fn text_of(alloc: Global, lines: &[&str]) -> Result<String, OutOfMemo
     Ok(text)
 }
 
-/// Folders without a file.
-pub(crate) fn no_files(alloc: Global) -> MemoryFolders {
+// Folders without a file.
+fn no_files(alloc: Global) -> MemoryFolders {
     MemoryFolders::new(alloc, 10_000, None)
 }
 

@@ -2,6 +2,7 @@
 
 use crate::assertions::assert_is;
 use crate::feed::{FileLines, HILL, LAKE, MILL, STOPS, TRIPS, put_files, small_feed};
+use gtfs_field::Clock;
 use gtfs_rules::{KeptStopTimes, check};
 use gtfs_table::Tables;
 use std::alloc::Global;
@@ -36,6 +37,10 @@ const WANTED: &str = "\
 1 2 7 Some(30000) Some(30000) 3 Regular Regular None true
 ";
 
+fn seconds(clock: Option<Clock>) -> Option<u32> {
+    Some(clock?.seconds())
+}
+
 fn lines_of(alloc: Global, stop_times: &KeptStopTimes) -> Result<String, Fail> {
     let mut lines = String::new(alloc);
     for at in 0..stop_times.len() {
@@ -46,8 +51,8 @@ fn lines_of(alloc: Global, stop_times: &KeptStopTimes) -> Result<String, Fail> {
             stop_time.trip,
             said.stop_id.0,
             stop_time.row,
-            said.arrival_time.get().map(|time| time.seconds()),
-            said.departure_time.get().map(|time| time.seconds()),
+            seconds(said.arrival_time.get()),
+            seconds(said.departure_time.get()),
             said.stop_sequence,
             said.pickup_type,
             said.drop_off_type,
