@@ -6,7 +6,7 @@ mod CallsMade
 pub mod Counted
 pub mod Reported
 mod Parts
-mod Begun
+mod Sent
 mod ControlSplit
 pub mod Printed
 mod Opening

@@ -1,10 +1,8 @@
 -- What was printed of a timetable, and why there is none.
-use Rattle.std.proofs.Common.{◌≡◌, ◌∙◌, ap, sym, subst, refl, ℕ, ◌+◌, ◌<◌, ◌≤◌, inl, inr, Bool, true, false, List, [], ◌∷◌, ◌++◌, append-nil, append_assoc, length, map, take, drop, take-append-drop, get_or, Option, Result, Ok, Err, arith}
-use Rattle.std.specs.Prelude.{flat_map, IfErr, IfOk, OnErr, OnOk}
+use Rattle.std.proofs.Common.{◌≡◌, ap, sym, subst, ℕ, inl, inr, Bool, true, false, List, map, Option, Result, Ok, Err, arith}
+use Rattle.std.specs.Prelude.{flat_map, IfErr, IfOk, OnOk}
 use Rattle.std.specs.Io.KnownBytes.{Appends, Keeps}
-use Rattle.std.proofs.lemmas.List.{map-append, map_more, take_all}
-use Rattle.std.proofs.lemmas.List.Concat.{flat_map-append}
-use Rattle.std.proofs.KnownBytes.{Appends-trans}
+use Rattle.std.proofs.lemmas.List.Folds.{flat_map-map}
 use Rattle.std.proofs.lemmas.Bool.{true_from_ne_false}
 use Rattle.gtfs_devices.specs.Folder.{Store}
 use Rattle.gtfs_rows.specs.Content.{Content}
@@ -18,7 +16,7 @@ use Rattle.gtfs_cli.specs.Boards.{HoldsFeed}
 use Rattle.gtfs_cli.specs.Messages.{message}
 use Rattle.gtfs_cli.specs.Refusals.{status_in}
 use Rattle.gtfs_cli.specs.Failures.{Failures}
-use Rattle.gtfs_cli.specs.Sending.{IsSendingCause, Output, Sends, SendsBeginning}
+use Rattle.gtfs_cli.specs.Sending.{IsSendingCause, IsSent, Output, Sends}
 use Rattle.gtfs_cli.specs.TimetableOptions.{IsTimetableRequest, TimetableRequest}
 use Rattle.gtfs_cli.specs.TimetableRun.{IsTabled, IsTimetableRun, IsUntabled}
 use Rattle.gtfs_cli.specs.Timetables.{timetable_text, BeginsSheets, BeginsTimetable, EndsSheets, EndsTimetable, IsFirstBadTimetable, IsSheetsCause, IsTimetableCause, IsTimetableText, PrintsTimetable, TimetableSetting}
@@ -26,7 +24,6 @@ use Rattle.gtfs_cli.specs.declared.commands.refusal.Refusal.{Refusal}
 use Rattle.gtfs_cli.specs.declared.commands.refusal.Refusal.TheVariants.{BadValue, UnknownRoute, OutputFailed, OutOfMemory}
 use Rattle.gtfs_cli.proofs.Ended.{at_zero, not_well}
 use Rattle.gtfs_cli.proofs.Endings.{counts}
-use Rattle.gtfs_cli.proofs.Parts.{Leaves, one-cut}
 
 -- ---- values of options
 
@@ -50,46 +47,11 @@ none-tabled limit held asked x y OutputFailed old new h keeps = absurd (omega (a
 none-tabled limit held asked x y OutOfMemory old new h keeps = inl keeps
 none-tabled limit held asked x y _ old new h keeps = keeps
 
-abbrev pub texts : List Sheet → List ℕ
-texts ss = flat_map sheet_text (map plain_sheet ss)
+abbrev pub shown_sheet : Sheet → List ℕ
+shown_sheet s = sheet_text (plain_sheet s)
 
-texts_more : (ss : List Sheet) (i : ℕ) (s : Sheet) → i < length ss → texts (take i ss) ++ sheet_text (plain_sheet (get_or ss i s)) ≡ texts (take (i + 1) ss)
-texts_more ss i s inside =
-    let text = sheet_text (plain_sheet (get_or ss i s)) in
-    ap (λ t. texts (take i ss) ++ t) (sym (append-nil text))
-    ∙ sym (flat_map-append sheet_text (map plain_sheet (take i ss)) (plain_sheet (get_or ss i s) ∷ []))
-    ∙ ap (λ qs. flat_map sheet_text qs) (sym (map_more plain_sheet ss i s inside))
-
--- one more sheet went out
-pub sheet-sent : (a b c : Option (List ℕ)) (ss : List Sheet) (i : ℕ) (s : Sheet) → i < length ss → s ≡ get_or ss i s → Appends a b (texts (take i ss))
-    → Appends b c (sheet_text (plain_sheet s)) → Appends a c (texts (take (i + 1) ss))
-sheet-sent a b c ss i s inside is first then =
-    let text = sheet_text (plain_sheet (get_or ss i s)) in
-    let more = subst (λ (x : Sheet). Appends b c (sheet_text (plain_sheet x))) is then in
-    subst (λ (t : List ℕ). Appends a c t) (texts_more ss i s inside) (Appends-trans a b c (texts (take i ss)) text first more)
-
--- all of them did
-pub sheets-sent : (a b : Option (List ℕ)) (ss : List Sheet) (i : ℕ) → length ss ≤ i → Appends a b (texts (take i ss)) → Appends a b (texts ss)
-sheets-sent a b ss i end out = subst (λ (xs : List Sheet). Appends a b (texts xs)) (take_all i ss end) out
-
--- the texts of sheets, from that of the sheet at an index on
-from_sheet : (ss : List Sheet) (i : ℕ) (s : Sheet) → i < length ss
-    → texts ss ≡ texts (take i ss) ++ (sheet_text (plain_sheet (get_or ss i s)) ++ texts (drop (i + 1) ss))
-from_sheet ss i s inside =
-    let text = sheet_text (plain_sheet (get_or ss i s)) in
-    let past = texts (drop (i + 1) ss) in
-    ap texts (sym (take-append-drop (i + 1) ss)) ∙ ap (flat_map sheet_text) (map-append plain_sheet (take (i + 1) ss) (drop (i + 1) ss))
-    ∙ flat_map-append sheet_text (map plain_sheet (take (i + 1) ss)) (map plain_sheet (drop (i + 1) ss))
-    ∙ ap (λ (t : List ℕ). t ++ past) (sym (texts_more ss i s inside)) ∙ append_assoc (texts (take i ss)) text past
-
--- the sheets before one of which a beginning went out
-pub sheet-cut : (a b c : Option (List ℕ)) (ss : List Sheet) (i : ℕ) (s : Sheet) → i < length ss → s ≡ get_or ss i s → Appends a b (texts (take i ss))
-    → SendsBeginning b c (sheet_text (plain_sheet s)) → SendsBeginning a c (texts ss)
-sheet-cut a b c ss i s inside is out begun =
-    let text = sheet_text (plain_sheet (get_or ss i s)) in
-    let past = texts (drop (i + 1) ss) in
-    let left : Leaves a b (texts ss) (text ++ past) = record { sent = texts (take i ss); whole = from_sheet ss i s inside; out = out } in
-    one-cut a b c (texts ss) (text ++ past) text past left refl (subst (λ (x : Sheet). SendsBeginning b c (sheet_text (plain_sheet x))) is begun)
+pub sheets-shown : (ss : List Sheet) → flat_map shown_sheet ss ≡ flat_map sheet_text (map plain_sheet ss)
+sheets-shown ss = sym (flat_map-map sheet_text plain_sheet ss)
 
 -- ---- of a feed
 
@@ -109,10 +71,10 @@ sending-ends f route q x y old new OutOfMemory h begun = inr begun
 sending-ends f route q x y old new _ h begun = absurd h
 
 -- the text of sheets was sent, or a beginning of it
-pub sent-ends : {A : Type 0} (f : Content) (route : List ℕ) (q : TimetableRequest) (x y : ℕ) (old new : Option (List ℕ)) (r : Result A Refusal)
-    → is_route f route ≡ true → IfErr r (IsSendingCause x y) → OnErr r (SendsBeginning old new (timetable_text f route q)) → IfErr r (EndsSheets f route q old new)
-sent-ends f route q x y old new (Ok done) known cause begun = tt
-sent-ends f route q x y old new (Err refusal) known cause begun = sending-ends f route q x y old new refusal cause (known, begun)
+pub sent-ends : {A : Type 0} (f : Content) (route : List ℕ) (q : TimetableRequest) (a b : Output) (r : Result A Refusal) → is_route f route ≡ true
+    → IsSent (timetable_text f route q) a b r → IfErr r (EndsSheets f route q a.told b.told)
+sent-ends f route q a b (Ok done) known sent = tt
+sent-ends f route q a b (Err refusal) known sent = sending-ends f route q a.failures b.failures a.told b.told refusal sent.refused (known, sent.cut_short)
 
 -- where the refusal has a cause whatever the output did, nothing was sent
 pub no-sheets : (f : Content) (route : List ℕ) (q : TimetableRequest) (old new : Option (List ℕ)) (r : Refusal)

@@ -1,4 +1,4 @@
-ghost use Rattle.std.specs.Prelude.{◌≡◌, ◌≢◌, ◌≤◌, ℕ, map, true, IfOk, IfErr, OnOk, OnErr};
+ghost use Rattle.std.specs.Prelude.{◌≡◌, ◌≢◌, ◌≤◌, ℕ, map, true, IfOk, IfErr, OnOk};
 ghost use Rattle.std.specs.List.{flat_map};
 ghost use Rattle.std.specs.Io.KnownBytes.{Appends};
 ghost use Rattle.gtfs_devices.specs.Device.{FailsAtLast, MakesCalls};
@@ -10,13 +10,14 @@ ghost use Rattle.gtfs_commands.specs.Words.{timetable_texts_of};
 ghost use Rattle.gtfs_cli.specs.Calls.{MakesAtMost};
 ghost use Rattle.gtfs_cli.specs.Refusals.{TellsFailure, TellsOutput};
 ghost use Rattle.gtfs_cli.specs.Failures.{FailedNowhere};
-ghost use Rattle.gtfs_cli.specs.Sending.{IsSendingCause, SendsBeginning};
+ghost use Rattle.gtfs_cli.specs.Sending.{IsSent};
 ghost use Rattle.gtfs_cli.specs.Timetables.{timetable_request_of, timetable_text, EndsSheets, EndsTimetable, IsSheetsCause, IsTimetableCause, PrintsTimetable};
 
 use crate::commands::feed::read_feed;
 use crate::commands::refusal::Refusal;
 use crate::commands::send::send;
 use crate::commands::timetable_values::{TimetableValues, read_timetable_values};
+use crate::seen::OutSeen;
 use gtfs_board::{Feed, Sheet, TableFault, push_sheet, timetable};
 use gtfs_commands::TimetableWords;
 use gtfs_table::{Folders, Out};
@@ -118,14 +119,8 @@ fn send_sheets<'w, O: Out>(
     sheets: &[Sheet<'_>],
     out: &mut O,
 ) -> Result<(), Refusal<'w>>
-    ensures sent { OnOk result (Appends (O.told out.old) (O.told out.new)
-        (flat_map sheet_text (map plain_sheet sheets.now))) }
-    ensures cut_short { OnErr result (SendsBeginning (O.told out.old) (O.told out.new)
-        (flat_map sheet_text (map plain_sheet sheets.now))) }
-    ensures refused { IfErr result (IsSendingCause (O.failure_count out.old)
-        (O.failure_count out.new)) }
-    ensures grows { O.failure_count out.old ≤ O.failure_count out.new }
-    ensures no_failure { OnOk result (O.failure_count out.new ≡ O.failure_count out.old) }
+    ensures sent { IsSent (flat_map sheet_text (map plain_sheet sheets.now))
+        (⟦<O as OutSeen>⟧.seen out.old) (⟦<O as OutSeen>⟧.seen out.new) result }
 {
     let mut text = String::new(alloc);
     for sheet in sheets {
@@ -141,14 +136,8 @@ fn send_sheet<'w, O: Out>(
     sheet: &Sheet<'_>,
     out: &mut O,
 ) -> Result<(), Refusal<'w>>
-    ensures sent { OnOk result (Appends (O.told out.old) (O.told out.new)
-        (sheet_text (plain_sheet sheet.now))) }
-    ensures cut_short { OnErr result (SendsBeginning (O.told out.old) (O.told out.new)
-        (sheet_text (plain_sheet sheet.now))) }
-    ensures refused { IfErr result (IsSendingCause (O.failure_count out.old)
-        (O.failure_count out.new)) }
-    ensures grows { O.failure_count out.old ≤ O.failure_count out.new }
-    ensures no_failure { OnOk result (O.failure_count out.new ≡ O.failure_count out.old) }
+    ensures sent { IsSent (sheet_text (plain_sheet sheet.now)) (⟦<O as OutSeen>⟧.seen out.old)
+        (⟦<O as OutSeen>⟧.seen out.new) result }
 {
     text.clear();
     push_sheet(alloc, text, sheet)?;

@@ -1,29 +1,7 @@
-use Rattle.std.proofs.Common.{List, ℕ, string_bytes, subst}
-use Rattle.std.specs.Prelude.{OnErr, OnOk}
-use Rattle.std.specs.Io.KnownBytes.{Appends}
-use Rattle.gtfs_table.proofs.FolderFacts.{on_err-always}
-use Rattle.gtfs_rules.specs.Report.{problem_line}
 use Rattle.gtfs_columns.specs.View.{problem_of}
-use Rattle.gtfs_cli.specs.Sending.{SendsBeginning}
-use Rattle.gtfs_cli.proofs.Parts.{line-made, none-sent}
+use Rattle.gtfs_rules.specs.Report.{problem_line}
+use Rattle.gtfs_cli.proofs.Sent.{sent-unmade}
 use Rattle.gtfs_cli.proofs.commands.check.print_problem.Goals as goal
 
-pub returns-in_err-push_problem-clause-cut_short : goal.returns-in_err-push_problem-clause-cut_short
-returns-in_err-push_problem-clause-cut_short g c =
-    let before = g.O.Out.told c.args.out.now in
-    let text = problem_line (problem_of c.args.problem.now) in
-    on_err-always c.from_residual.result (SendsBeginning before before text) (none-sent before text)
-
-pub returns-clause-sent : goal.returns-clause-sent
-returns-clause-sent g c =
-    let text = problem_line (problem_of c.args.problem.now) in
-    let same = line-made text c.as_bytes.result.now (string_bytes c.push_problem.new.text) (string_bytes c.clear.new.self) c.as_bytes.ensures.value
-    c.in_ok-push_problem.ensures.appended c.clear.ensures.bytes in
-    subst (λ (t : List ℕ). OnOk c.send.result (Appends (g.O.Out.told c.args.out.now) (g.O.Out.told c.send.new.out) t)) same c.send.ensures.sent
-
-pub returns-clause-cut_short : goal.returns-clause-cut_short
-returns-clause-cut_short g c =
-    let text = problem_line (problem_of c.args.problem.now) in
-    let same = line-made text c.as_bytes.result.now (string_bytes c.push_problem.new.text) (string_bytes c.clear.new.self) c.as_bytes.ensures.value
-    c.in_ok-push_problem.ensures.appended c.clear.ensures.bytes in
-    subst (λ (t : List ℕ). OnErr c.send.result (SendsBeginning (g.O.Out.told c.args.out.now) (g.O.Out.told c.send.new.out) t)) same c.send.ensures.cut_short
+pub returns-in_err-push_problem : goal.returns-in_err-push_problem
+returns-in_err-push_problem g c = record { sent = sent-unmade (problem_line (problem_of c.args.problem.now)) _ c.from_residual.result c.from_residual.ensures.1 }
