@@ -264,7 +264,7 @@ def outcome(words):
     except Help:
         return Outcome(0, out=SOME, cause="help")
     except Version:
-        return Outcome(0, out="gtfs 1.0.0\n", cause="version")
+        return Outcome(0, out="gtfs 1.1.0\n", cause="version")
     except Refused:
         return Outcome(2, err=SOME, cause="refused words")
     except NotUtf8:

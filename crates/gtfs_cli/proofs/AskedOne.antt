@@ -1,11 +1,16 @@
--- Words that `clap` takes ask for one of the commands.
-use Rattle.std.proofs.Common.{◌≡◌, ◌⊎◌, inl, inr, refl, true, List, Option, Some, None}
-use Rattle.std.specs.Prelude.{codes, IsSome}
+-- Words ask for one thing: for a command with its texts, or for none that `clap` takes.
+use Rattle.std.proofs.Common.{◌≡◌, ◌∙◌, ap, refl, sym, subst, true, false, true≢false, Bool, bytes_eq, inl, inr, List, Option, Some, None, codes}
+use Rattle.std.specs.Prelude.{IsSome}
 use Rattle.clap.specs.Words.{Row, Text, first_of, subcommand_of, takes}
 use Rattle.gtfs_commands.specs.Asked.{is_flagged, ForBoard, ForBoards, ForCheck, ForMerge, ForTimetable, HasBoard, HasBoards, HasMerge, HasTimetable, GivesBoard, GivesBoards, GivesMerge, GivesTimetable, IsWhole}
-use Rattle.gtfs_commands.specs.Words.{gtfs_app, BoardTexts, BoardsTexts, MergeTexts, TimetableTexts}
+use Rattle.gtfs_commands.specs.Words.{gtfs_app, boards_texts_of, merge_texts_of, texts_of, timetable_texts_of, BoardTexts, BoardsTexts, IsCommandOf, MergeTexts, TimetableTexts}
+use Rattle.gtfs_commands.specs.declared.command.Command.{Command}
+use Rattle.gtfs_commands.specs.declared.command.Command.TheVariants as commands
 use Rattle.gtfs_commands.proofs.GtfsWords.{whole}
-use Rattle.gtfs_cli.specs.WordsRun.{AsksOne}
+use Rattle.gtfs_commands.proofs.OneAsked.{same_board, same_boards, same_check, same_merge, same_timetable}
+use Rattle.gtfs_cli.specs.Asked.{Asked, Asks, Board, Boards, Check, Merge, Timetable, Untaken}
+
+-- ---- they ask for something
 
 value_of : {A : Type 0} (o : Option A) → IsSome o → (x : A) × (o ≡ Some x)
 value_of None some = cc some
@@ -64,24 +69,168 @@ merge_of given has =
       record { a = a.1; b = b.1; out = out.1; near = refl; cutoff = refl },
     )
 
-abbrev ForOne : Option (Text × List Row) → Type 0
-ForOne found = ((dir : Text) × ForCheck found dir) ⊎ (((asked : BoardTexts) × ForBoard found asked)
-    ⊎ (((asked : TimetableTexts) × ForTimetable found asked) ⊎ (((asked : MergeTexts) × ForMerge found asked) ⊎ ((asked : BoardsTexts) × ForBoards found asked))))
+-- a command is named, and its texts are given
+abbrev ForOne : Option (Text × List Row) → Asked → Type 0
+ForOne found (Check dir) = ForCheck found dir
+ForOne found (Board texts) = ForBoard found texts
+ForOne found (Boards texts) = ForBoards found texts
+ForOne found (Timetable texts) = ForTimetable found texts
+ForOne found (Merge texts) = ForMerge found texts
+ForOne found Untaken = ⊥
 
-for_one : (found : Option (Text × List Row)) → IsWhole found → ForOne found
-for_one None none = absurd none
-for_one (Some found) (inl (named, has)) = let dir = value_of (first_of (codes "DIR") found.1) has in inl (dir.0, (named, dir.1))
-for_one (Some found) (inr (inl (named, has))) = let board = board_of found.1 has in inr (inl (board.0, (named, board.1)))
-for_one (Some found) (inr (inr (inl (named, has)))) = let boards = boards_of found.1 has in inr (inr (inr (inr (boards.0, (named, boards.1)))))
-for_one (Some found) (inr (inr (inr (inl (named, has))))) = let table = timetable_of found.1 has in inr (inr (inl (table.0, (named, table.1))))
-for_one (Some found) (inr (inr (inr (inr (named, has))))) = let merge = merge_of found.1 has in inr (inr (inr (inl (merge.0, (named, merge.1)))))
+for-one : (found : Option (Text × List Row)) → IsWhole found → (asked : Asked) × ForOne found asked
+for-one None none = absurd none
+for-one (Some found) (inl (named, has)) = let dir = value_of (first_of (codes "DIR") found.1) has in (Check dir.0, (named, dir.1))
+for-one (Some found) (inr (inl (named, has))) = let texts = board_of found.1 has in (Board texts.0, (named, texts.1))
+for-one (Some found) (inr (inr (inl (named, has)))) = let texts = boards_of found.1 has in (Boards texts.0, (named, texts.1))
+for-one (Some found) (inr (inr (inr (inl (named, has))))) = let texts = timetable_of found.1 has in (Timetable texts.0, (named, texts.1))
+for-one (Some found) (inr (inr (inr (inr (named, has))))) = let texts = merge_of found.1 has in (Merge texts.0, (named, texts.1))
 
-asks : (words : List Text) → takes gtfs_app words ≡ true → ForOne (subcommand_of gtfs_app words) → AsksOne words
-asks words taken (inl (dir, is)) = inl (dir, record { taken = taken; asks = is })
-asks words taken (inr (inl (asked, is))) = inr (inl (asked, record { taken = taken; asks = is }))
-asks words taken (inr (inr (inl (asked, is)))) = inr (inr (inl (asked, record { taken = taken; asks = is })))
-asks words taken (inr (inr (inr (inl (asked, is))))) = inr (inr (inr (inl (asked, record { taken = taken; asks = is }))))
-asks words taken (inr (inr (inr (inr (asked, is))))) = inr (inr (inr (inr (asked, record { taken = taken; asks = is }))))
+-- what is asked for where `clap` takes the words
+asks-by : (words : List Text) → takes gtfs_app words ≡ true → (asked : Asked) → ForOne (subcommand_of gtfs_app words) asked → Asks words asked
+asks-by words taken (Check dir) is = record { taken = taken; asks = is }
+asks-by words taken (Board texts) is = record { taken = taken; asks = is }
+asks-by words taken (Boards texts) is = record { taken = taken; asks = is }
+asks-by words taken (Timetable texts) is = record { taken = taken; asks = is }
+asks-by words taken (Merge texts) is = record { taken = taken; asks = is }
+asks-by words taken Untaken is = absurd is
 
-pub asks-one : (words : List Text) → takes gtfs_app words ≡ true → AsksOne words
-asks-one words taken = asks words taken (for_one (subcommand_of gtfs_app words) (whole words taken))
+asks-as : (words : List Text) (taken : Bool) → takes gtfs_app words ≡ taken → (asked : Asked) × Asks words asked
+asks-as words true is = let one = for-one (subcommand_of gtfs_app words) (whole words is) in (one.0, asks-by words is one.0 one.1)
+asks-as words false is = (Untaken, is)
+
+pub asks-some : (words : List Text) → (asked : Asked) × Asks words asked
+asks-some words = asks-as words (takes gtfs_app words) refl
+
+-- ---- and for nothing else
+
+abbrev IsTaken : Asked → Type 0
+IsTaken Untaken = ⊥
+IsTaken _ = ⊤
+
+abbrev name_of : Asked → Text
+name_of (Check dir) = codes "check"
+name_of (Board texts) = codes "board"
+name_of (Boards texts) = codes "boards"
+name_of (Timetable texts) = codes "timetable"
+name_of (Merge texts) = codes "merge"
+name_of Untaken = codes ""
+
+taken-by : (words : List Text) (x : Asked) → IsTaken x → Asks words x → takes gtfs_app words ≡ true
+taken-by words (Check x) tt asks = asks.taken
+taken-by words (Board x) tt asks = asks.taken
+taken-by words (Boards x) tt asks = asks.taken
+taken-by words (Timetable x) tt asks = asks.taken
+taken-by words (Merge x) tt asks = asks.taken
+taken-by words Untaken none asks = absurd none
+
+abbrev IsNamed : Option (Text × List Row) → Text → Type 0
+IsNamed None name = ⊥
+IsNamed (Some found) name = found.0 ≡ name
+
+check-named : (found : Option (Text × List Row)) (texts : Text) → ForCheck found texts → IsNamed found (codes "check")
+check-named None texts asks = absurd asks
+check-named (Some found) texts asks = asks.0
+
+board-named : (found : Option (Text × List Row)) (texts : BoardTexts) → ForBoard found texts → IsNamed found (codes "board")
+board-named None texts asks = absurd asks
+board-named (Some found) texts asks = asks.0
+
+boards-named : (found : Option (Text × List Row)) (texts : BoardsTexts) → ForBoards found texts → IsNamed found (codes "boards")
+boards-named None texts asks = absurd asks
+boards-named (Some found) texts asks = asks.0
+
+timetable-named : (found : Option (Text × List Row)) (texts : TimetableTexts) → ForTimetable found texts → IsNamed found (codes "timetable")
+timetable-named None texts asks = absurd asks
+timetable-named (Some found) texts asks = asks.0
+
+merge-named : (found : Option (Text × List Row)) (texts : MergeTexts) → ForMerge found texts → IsNamed found (codes "merge")
+merge-named None texts asks = absurd asks
+merge-named (Some found) texts asks = asks.0
+
+named : (words : List Text) (x : Asked) → IsTaken x → Asks words x → IsNamed (subcommand_of gtfs_app words) (name_of x)
+named words (Check x) tt asks = check-named (subcommand_of gtfs_app words) x asks.asks
+named words (Board x) tt asks = board-named (subcommand_of gtfs_app words) x asks.asks
+named words (Boards x) tt asks = boards-named (subcommand_of gtfs_app words) x asks.asks
+named words (Timetable x) tt asks = timetable-named (subcommand_of gtfs_app words) x asks.asks
+named words (Merge x) tt asks = merge-named (subcommand_of gtfs_app words) x asks.asks
+named words Untaken none asks = absurd none
+
+not-both : (found : Option (Text × List Row)) (x y : Text) → bytes_eq x x ≡ true → bytes_eq x y ≡ false → IsNamed found x → IsNamed found y → ⊥
+not-both None x y same differ is_x is_y = is_x
+not-both (Some found) x y same differ is_x is_y =
+    absurd (true≢false (sym same ∙ subst (λ (t : Text). bytes_eq x t ≡ false) (sym (sym is_x ∙ is_y)) differ))
+
+-- commands of two names are not both asked for
+clash : (words : List Text) (x y : Asked) → IsTaken x → IsTaken y → bytes_eq (name_of x) (name_of x) ≡ true → bytes_eq (name_of x) (name_of y) ≡ false → Asks words x → Asks words y → ⊥
+clash words x y has_x has_y same differ a b =
+    not-both (subcommand_of gtfs_app words) (name_of x) (name_of y) same differ (named words x has_x a) (named words y has_y b)
+
+-- words are taken or not
+untaken : (words : List Text) (x : Asked) → IsTaken x → Asks words x → takes gtfs_app words ≡ false → ⊥
+untaken words x has asks not = absurd (true≢false (sym (taken-by words x has asks) ∙ not))
+
+pub one-asked : (words : List Text) (x y : Asked) → Asks words x → Asks words y → x ≡ y
+one-asked words (Check x) (Check y) a b = ap (λ t. Check t) (same_check (subcommand_of gtfs_app words) x y a.asks b.asks)
+one-asked words (Check x) (Board y) a b = absurd (clash words (Check x) (Board y) tt tt refl refl a b)
+one-asked words (Check x) (Boards y) a b = absurd (clash words (Check x) (Boards y) tt tt refl refl a b)
+one-asked words (Check x) (Timetable y) a b = absurd (clash words (Check x) (Timetable y) tt tt refl refl a b)
+one-asked words (Check x) (Merge y) a b = absurd (clash words (Check x) (Merge y) tt tt refl refl a b)
+one-asked words (Check x) Untaken a b = absurd (untaken words (Check x) tt a b)
+one-asked words (Board x) (Check y) a b = absurd (clash words (Board x) (Check y) tt tt refl refl a b)
+one-asked words (Board x) (Board y) a b = ap (λ t. Board t) (same_board (subcommand_of gtfs_app words) x y a.asks b.asks)
+one-asked words (Board x) (Boards y) a b = absurd (clash words (Board x) (Boards y) tt tt refl refl a b)
+one-asked words (Board x) (Timetable y) a b = absurd (clash words (Board x) (Timetable y) tt tt refl refl a b)
+one-asked words (Board x) (Merge y) a b = absurd (clash words (Board x) (Merge y) tt tt refl refl a b)
+one-asked words (Board x) Untaken a b = absurd (untaken words (Board x) tt a b)
+one-asked words (Boards x) (Check y) a b = absurd (clash words (Boards x) (Check y) tt tt refl refl a b)
+one-asked words (Boards x) (Board y) a b = absurd (clash words (Boards x) (Board y) tt tt refl refl a b)
+one-asked words (Boards x) (Boards y) a b = ap (λ t. Boards t) (same_boards (subcommand_of gtfs_app words) x y a.asks b.asks)
+one-asked words (Boards x) (Timetable y) a b = absurd (clash words (Boards x) (Timetable y) tt tt refl refl a b)
+one-asked words (Boards x) (Merge y) a b = absurd (clash words (Boards x) (Merge y) tt tt refl refl a b)
+one-asked words (Boards x) Untaken a b = absurd (untaken words (Boards x) tt a b)
+one-asked words (Timetable x) (Check y) a b = absurd (clash words (Timetable x) (Check y) tt tt refl refl a b)
+one-asked words (Timetable x) (Board y) a b = absurd (clash words (Timetable x) (Board y) tt tt refl refl a b)
+one-asked words (Timetable x) (Boards y) a b = absurd (clash words (Timetable x) (Boards y) tt tt refl refl a b)
+one-asked words (Timetable x) (Timetable y) a b = ap (λ t. Timetable t) (same_timetable (subcommand_of gtfs_app words) x y a.asks b.asks)
+one-asked words (Timetable x) (Merge y) a b = absurd (clash words (Timetable x) (Merge y) tt tt refl refl a b)
+one-asked words (Timetable x) Untaken a b = absurd (untaken words (Timetable x) tt a b)
+one-asked words (Merge x) (Check y) a b = absurd (clash words (Merge x) (Check y) tt tt refl refl a b)
+one-asked words (Merge x) (Board y) a b = absurd (clash words (Merge x) (Board y) tt tt refl refl a b)
+one-asked words (Merge x) (Boards y) a b = absurd (clash words (Merge x) (Boards y) tt tt refl refl a b)
+one-asked words (Merge x) (Timetable y) a b = absurd (clash words (Merge x) (Timetable y) tt tt refl refl a b)
+one-asked words (Merge x) (Merge y) a b = ap (λ t. Merge t) (same_merge (subcommand_of gtfs_app words) x y a.asks b.asks)
+one-asked words (Merge x) Untaken a b = absurd (untaken words (Merge x) tt a b)
+one-asked words Untaken (Check y) a b = absurd (untaken words (Check y) tt b a)
+one-asked words Untaken (Board y) a b = absurd (untaken words (Board y) tt b a)
+one-asked words Untaken (Boards y) a b = absurd (untaken words (Boards y) tt b a)
+one-asked words Untaken (Timetable y) a b = absurd (untaken words (Timetable y) tt b a)
+one-asked words Untaken (Merge y) a b = absurd (untaken words (Merge y) tt b a)
+one-asked words Untaken Untaken a b = refl
+
+-- ---- the command that was read
+
+abbrev pub asked_by : Command → Asked
+asked_by (commands.Check dir) = Check dir.now
+asked_by (commands.Board words) = Board (texts_of words)
+asked_by (commands.Boards words) = Boards (boards_texts_of words)
+asked_by (commands.Timetable words) = Timetable (timetable_texts_of words)
+asked_by (commands.Merge words) = Merge (merge_texts_of words)
+
+for-command : (found : Option (Text × List Row)) (x : Command) → IsCommandOf found x → ForOne found (asked_by x)
+for-command None x is = absurd is
+for-command (Some found) (commands.Check x) is = is
+for-command (Some found) (commands.Board x) is = is
+for-command (Some found) (commands.Boards x) is = is
+for-command (Some found) (commands.Timetable x) is = is
+for-command (Some found) (commands.Merge x) is = is
+
+-- what is so of it is so of what the words ask for
+pub as-asked : (words : List Text) (x : Command) → takes gtfs_app words ≡ true → IsCommandOf (subcommand_of gtfs_app words) x → (P : Asked → Type 0) → P (asked_by x)
+    → (asked : Asked) → Asks words asked → P asked
+as-asked words x taken is P h asked asks =
+    subst P (one-asked words (asked_by x) asked (asks-by words taken (asked_by x) (for-command (subcommand_of gtfs_app words) x is)) asks) h
+
+-- the same of words that are not taken
+pub as-untaken : (words : List Text) → takes gtfs_app words ≡ false → (P : Asked → Type 0) → P Untaken → (asked : Asked) → Asks words asked → P asked
+as-untaken words not P h asked asks = subst P (one-asked words Untaken asked not asks) h

@@ -1,12 +1,11 @@
 -- How many calls of the folders are made.
-use Rattle.std.proofs.Common.{◌≡◌, ◌≢◌, ℕ, ◌+◌, ◌≤◌, true, Option, Result, Ok, Err, refl, arith}
-use Rattle.std.specs.Prelude.{is_ok, IsErrAnd, OnOk}
+use Rattle.std.proofs.Common.{◌≡◌, ◌≢◌, ℕ, ◌+◌, ◌≤◌, Option, refl, arith}
 use Rattle.gtfs_devices.specs.Device.{Calls, MakesCalls, MakesSomeCalls}
 use Rattle.gtfs_devices.specs.Folder.{CountsFault}
 use Rattle.gtfs_devices.specs.declared.folders.FolderFault.{FolderFault}
 use Rattle.gtfs_devices.specs.declared.folders.FolderFault.TheVariants as faults
 use Rattle.gtfs_table.proofs.FolderFacts.{calls-more, calls-none}
-use Rattle.gtfs_cli.specs.Calls.{MakesAtMost, TakesCalls}
+use Rattle.gtfs_cli.specs.Calls.{MakesAtMost}
 
 pub no-calls : (most : ℕ) (a : Option Calls) → MakesAtMost most a a
 no-calls most a = record { count = 0; few = omega arith; made = calls-none a }
@@ -33,17 +32,3 @@ last-of faults.TooLarge before after Last count read write differ = absurd (diff
 last-of faults.OutOfMemory before after Last count read write differ = absurd (differ count)
 last-of faults.NoFolder before after Last count read write differ = absurd (differ count)
 last-of faults.Write before after Last count read write differ = write refl
-
--- ---- a command that was done
-
-pub takes-calls : {A E : Type 0} (r : Result A E) (most : ℕ) (a b : Option Calls) → MakesAtMost most a b → OnOk r (MakesCalls most a b)
-    → TakesCalls most (is_ok r ≡ true) a b
-takes-calls (Ok x) most a b few all = record { few = few; all = λ _. all }
-takes-calls (Err e) most a b few all = record { few = few; all = λ done. cc done }
-
-pub takes-by : {Done Ended : Type 0} (most : ℕ) (a b : Option Calls) → (Ended → Done) → TakesCalls most Done a b → TakesCalls most Ended a b
-takes-by most a b f h = record { few = h.few; all = λ ended. h.all (f ended) }
-
-pub not-done : {A E : Type 0} (r : Result A E) (Q : E → Type 0) → IsErrAnd r Q → is_ok r ≡ true → ⊥
-not-done (Ok x) Q refused done = refused
-not-done (Err e) Q refused done = cc done

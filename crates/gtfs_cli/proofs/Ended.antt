@@ -1,55 +1,43 @@
--- How a run of `gtfs board` ends.
-use Rattle.std.proofs.Common.{◌≡◌, ◌∙◌, ap, refl, ℕ, sym, inl, inr, Bool, false, true, List, Option, Some, None, Result, Ok, Err, arith}
-use Rattle.std.specs.Prelude.{cond, is_ok, IfErr, IfOk, IsSome, OnErr, OnOk}
-use Rattle.std.specs.Io.KnownBytes.{Appends, Keeps}
+-- What the status tells of how a command ended.
+use Rattle.std.proofs.Common.{◌≡◌, ◌≢◌, ◌∙◌, ◌≤◌, ℕ, true, false, Bool, List, Result, Ok, Err, inl, inr, refl, arith}
+use Rattle.std.specs.Prelude.{OnErr, OnOk}
+use Rattle.std.specs.Io.KnownBytes.{Appends}
 use Rattle.gtfs_devices.specs.Device.{Rises}
-use Rattle.gtfs_devices.specs.Folder.{Store}
-use Rattle.gtfs_cli.specs.BoardRun.{IsBoardRun, IsListed, IsUnlisted}
-use Rattle.gtfs_commands.specs.Words.{BoardTexts}
-use Rattle.gtfs_cli.specs.Messages.{message}
-use Rattle.gtfs_cli.specs.Refusals.{status_in, status_of}
-use Rattle.gtfs_cli.specs.Failures.{Failures}
-use Rattle.gtfs_cli.specs.Sending.{Output, Sends, SendsBeginning}
+use Rattle.gtfs_cli.specs.Failures.{FailedNowhere, Failures}
+use Rattle.gtfs_cli.specs.Plan.{failures_of, Ends, Plan}
+use Rattle.gtfs_cli.specs.Refusals.{status_in, status_of, TellsFolders, TellsOutput}
+use Rattle.gtfs_cli.specs.Seen.{Devices, Output}
+use Rattle.gtfs_cli.specs.Sending.{Sends, SendsBeginning}
 use Rattle.gtfs_cli.specs.declared.commands.refusal.Refusal.{Refusal}
-use Rattle.gtfs_cli.specs.declared.commands.refusal.Refusal.TheVariants.{Line}
+use Rattle.gtfs_cli.specs.declared.commands.refusal.Refusal.TheVariants.{Line, OutputFailed, Unreadable, Unwritable}
 use Rattle.gtfs_cli.specs.declared.commands.request_fault.RequestFault.TheVariants as requests
 
-pub is-some : {A : Type 0} (o : Option A) (x : A) → o ≡ Some x → IsSome o
-is-some None x e = cc e
-is-some (Some y) x e = refl
+statuses-from : (r : Refusal) (status : ℕ) → status ≡ status_of r → status ≤ 4
+statuses-from (Line (requests.BadRequest number)) status is = omega (arith, is)
+statuses-from (Line (requests.UnknownStop number)) status is = omega (arith, is)
+statuses-from (Line (requests.UntilBeforeFrom number)) status is = omega (arith, is)
+statuses-from _ status is = omega (arith, is)
 
--- no refusal ends well
-pub not_well : (r : Refusal) → status_of r ≡ 0 → ⊥
-not_well (Line (requests.BadRequest number)) e = cc e
-not_well (Line (requests.UnknownStop number)) e = cc e
-not_well (Line (requests.UntilBeforeFrom number)) e = cc e
-not_well _ e = cc e
+pub statuses-ended : (ended : Result Bool Refusal) (status : ℕ) → status ≡ status_in ended → status ≤ 4
+statuses-ended (Ok true) status gives = omega (arith, gives)
+statuses-ended (Ok false) status gives = omega (arith, gives)
+statuses-ended (Err r) status gives = statuses-from r status gives
 
--- a command that ends well was done
-pub well-done : (ended : Result Bool Refusal) (status : ℕ) → status ≡ status_in ended → status ≡ 0 → is_ok ended ≡ true
-well-done (Ok failed) status gives zero = refl
-well-done (Err r) status gives zero = absurd (not_well r (sym gives ∙ zero))
+nowhere : (before after : Failures) (r : Refusal) → status_of r ≢ 3 → TellsFolders before.folders after.folders r → TellsOutput before.output after.output r → FailedNowhere before after
+nowhere before after (Unreadable path) other folders output = absurd (other refl)
+nowhere before after (Unwritable path) other folders output = absurd (other refl)
+nowhere before after OutputFailed other folders output = absurd (other refl)
+nowhere before after _ other folders output = (folders, output)
+
+-- only at 3 something failed
+pub failed-nowhere : (plan : Plan) (before after : Devices) (ended : Result Bool Refusal) (status : ℕ) → status ≡ status_in ended → Ends plan before after ended → status ≢ 3
+    → FailedNowhere (failures_of before) (failures_of after)
+failed-nowhere plan before after (Ok failed) status gives ends other = (ends.asks.no_failure, ends.no_failure)
+failed-nowhere plan before after (Err e) status gives ends other = nowhere (failures_of before) (failures_of after) e (λ three. other (gives ∙ three)) ends.asks.told ends.told
+
+-- ---- the error output
 
 pub sends : {A B : Type 0} (r : Result A B) (err told : Output) (text : List ℕ) → OnOk r (Appends err.told told.told text)
     → OnErr r (SendsBeginning err.told told.told text) → OnErr r (Rises err.failures told.failures) → Sends err told text
 sends (Ok x) err told text whole cut counted = inl whole
 sends (Err e) err told text whole cut counted = inr (cut, counted)
-
--- a command that found no error ends with status 0
-pub at_zero : (failed : Bool) (status : ℕ) → failed ≡ false → status ≡ cond failed 1 0 → status ≡ 0
-at_zero failed status none gives = gives ∙ ap (λ (b : Bool). cond {A = ℕ} b 1 0) none
-
-module _ (limit : ℕ) (held : Option Store) (asked : BoardTexts) (before after : Failures) (old new : Option (List ℕ)) where
-  pub board-ended : (ended : Result Bool Refusal) (status : ℕ) (err told : Output) → status ≡ status_in ended → IfOk ended (IsListed limit held asked old new)
-      → IfErr ended (IsUnlisted limit held asked before after old new) → OnOk ended (Keeps err.told told.told) → IfErr ended (λ r. Sends err told (message r))
-      → IsBoardRun limit held asked before after old new err told status
-  board-ended (Ok failed) status err told gives ok bad keeps line = record {
-    printed = λ _. ok.0;
-    silent = λ _. keeps;
-    refused = λ up. absurd (omega (arith, up, at_zero failed status ok.1 gives));
-  }
-  board-ended (Err r) status err told gives ok bad keeps line = record {
-    printed = λ z. absurd (not_well r (sym gives ∙ z));
-    silent = λ z. absurd (not_well r (sym gives ∙ z));
-    refused = λ _. record { refusal = r; unlisted = bad; gives = gives; line = line };
-  }

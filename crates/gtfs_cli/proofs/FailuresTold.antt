@@ -1,9 +1,8 @@
 -- Which devices failed where a refusal is told.
-use Rattle.std.proofs.Common.{◌≡◌, ◌≢◌, ◌∙◌, ℕ, Bool, Result, Ok, Err, refl, subst}
-use Rattle.std.specs.Prelude.{IfErr, IsErrAnd, OnOk}
+use Rattle.std.proofs.Common.{◌≡◌, ℕ, Result, Ok, Err, refl, subst}
+use Rattle.std.specs.Prelude.{IfErr}
 use Rattle.gtfs_cli.specs.Sending.{IsSendingCause}
-use Rattle.gtfs_cli.specs.Refusals.{status_in, status_of, TellsFailure, TellsFolders, TellsOutput}
-use Rattle.gtfs_cli.specs.Failures.{FailedNowhere, Failures}
+use Rattle.gtfs_cli.specs.Refusals.{TellsFolders, TellsOutput}
 use Rattle.gtfs_cli.specs.declared.commands.refusal.Refusal.{Refusal}
 use Rattle.gtfs_cli.specs.declared.commands.refusal.Refusal.TheVariants.{Unreadable, Unwritable, OutputFailed, OutOfMemory}
 
@@ -39,22 +38,3 @@ sending-since first before after same r h = subst (λ (n : ℕ). IsSendingCause 
 pub each-err : {A : Type 0} (r : Result A Refusal) (P : Refusal → Type 0) → ((e : Refusal) → P e) → IfErr r P
 each-err (Ok x) P h = tt
 each-err (Err e) P h = h e
-
--- what is so of the refusal that a call ends with
-pub of-refusal : (r : Result Bool Refusal) (e : Refusal) (P : Refusal → Type 0) → IsErrAnd r (λ x. x ≡ e) → IfErr r P → P e
-of-refusal (Ok x) e P is h = absurd is
-of-refusal (Err x) e P is h = subst P is h
-
--- ---- from what the command ended with
-
-nowhere : (before after : Failures) (r : Refusal) → status_of r ≢ 3 → TellsFailure before after r → FailedNowhere before after
-nowhere before after (Unreadable path) other told = absurd (other refl)
-nowhere before after (Unwritable path) other told = absurd (other refl)
-nowhere before after OutputFailed other told = absurd (other refl)
-nowhere before after _ other told = told
-
--- only at 3 something failed
-pub failed-nowhere : (before after : Failures) (ended : Result Bool Refusal) (status : ℕ) → status ≡ status_in ended → OnOk ended (FailedNowhere before after)
-    → IfErr ended (TellsFailure before after) → status ≢ 3 → FailedNowhere before after
-failed-nowhere before after (Ok failed) status gives ok told other = ok
-failed-nowhere before after (Err e) status gives ok told other = nowhere before after e (λ three. other (gives ∙ three)) told

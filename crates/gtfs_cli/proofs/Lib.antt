@@ -1,6 +1,5 @@
 mod Moments
 mod Paths
-mod Endings
 mod FailuresTold
 mod CallsMade
 mod ReadsThen
@@ -8,9 +7,8 @@ mod FoldersRead
 pub mod Counted
 pub mod Reported
 mod Parts
-mod Begun
+mod Sent
 mod ControlSplit
-pub mod Printed
 mod Opening
 mod Ended
 mod Tabled
@@ -21,28 +19,25 @@ mod Filed
 mod ReadBack
 mod MergeValues
 mod Unmerged
-mod MergeEnded
-mod BoardsEnded
-mod Unchecked
-mod CommandEnds
 mod AskedOne
-mod CommandCalls
-mod Outcomes
-mod Apart
 mod PathCuts
 mod FolderEnds
 mod ZoneEnds
 mod OnePage
 mod OneBoard
 mod OneMerge
-mod RunOutcomes
 mod Told
 mod RequestFields
 mod RequestFaults
 mod RequestLines
 mod RequestBoards
-mod FilesRead
 mod ManyBoards
-mod RequestsEnds
 mod OneBoards
-mod RunBoards
+mod Plans
+mod BoardParts
+mod ReadsThen
+mod OneRefusal
+mod OneOutcome
+mod OneCheck
+mod OneTimetable
+mod OneCommand

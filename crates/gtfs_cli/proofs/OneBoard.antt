@@ -1,8 +1,7 @@
 -- A board has one outcome.
-use Rattle.std.proofs.Common.{◌≡◌, ◌≢◌, ◌∙◌, ap, sym, subst, refl, ℕ, inl, inr, ◌⊎◌, true, false, List, [], Some, None, codes, arith}
+use Rattle.std.proofs.Common.{◌≡◌, ◌∙◌, ap, sym, subst, refl, ℕ, true, false, Bool, List, [], Option, Some, None, codes}
 use Rattle.std.specs.Prelude.{◌<ℤ◌}
 use Rattle.std.proofs.lemmas.Option.{same_Some}
-use Rattle.clap.specs.Words.{Text}
 use Rattle.gtfs_days.specs.Zone.{zone_origin, SaysSame}
 use Rattle.gtfs_days.specs.declared.zone.Zone.{Zone}
 use Rattle.gtfs_devices.specs.Folder.{Store}
@@ -13,27 +12,25 @@ use Rattle.gtfs_board.specs.Board.{is_stop, keys_of}
 use Rattle.gtfs_rows.specs.Departures.{IsBoard, Origins}
 use Rattle.gtfs_rows.specs.Key.{Key}
 use Rattle.gtfs_times.specs.Filling.{timed}
-use Rattle.gtfs_board.specs.Page.{IsPage}
+use Rattle.gtfs_board.specs.Page.{IsCutShort, IsPage, IsStopped}
 use Rattle.gtfs_board.proofs.OneBoard.{one-board as one-list-of-keys}
 use Rattle.gtfs_commands.specs.Words.{BoardTexts}
-use Rattle.gtfs_cli.specs.Boards.{OfBoard}
-use Rattle.gtfs_cli.specs.Messages.{line_of, message}
-use Rattle.gtfs_cli.specs.Outcomes.{none_failed, IsBoarded, IsBoardOutcome, Outcome}
-use Rattle.gtfs_cli.specs.Refusals.{status_of, IsCause}
-use Rattle.gtfs_cli.specs.OptionValues.{first_bad, instant_at, HasValues, IsRequest, Request}
-use Rattle.gtfs_cli.specs.BoardSetting.{EndsBeforeItBegins, LacksStop, LiesBefore, Setting}
+use Rattle.gtfs_cli.specs.BoardSetting.{LiesBefore, Setting}
+use Rattle.gtfs_cli.specs.Boards.{board_judges, board_plan, stop_and_span, IsBoardText, IsStopCause, IsTextOf}
+use Rattle.gtfs_cli.specs.FileRead.{HoldsSomeZone}
+use Rattle.gtfs_cli.specs.HeldFiles.{HoldsPassing}
+use Rattle.gtfs_cli.specs.Judging.{feed, followed_by, sending, values, zone, Judged}
+use Rattle.gtfs_cli.specs.Messages.{line_of}
+use Rattle.gtfs_cli.specs.OptionValues.{first_bad, instant_at, judged_board, IsRequest, Request}
+use Rattle.gtfs_cli.specs.Plan.{passed}
 use Rattle.gtfs_cli.specs.declared.commands.refusal.Refusal.{Refusal}
-use Rattle.gtfs_cli.specs.declared.commands.refusal.Refusal.TheVariants.{BadValue, NotThere, Unreadable, OverLimit, HasErrors, NoZone, UnknownStop, UntilBeforeFrom, OutputFailed, OutOfMemory}
-use Rattle.gtfs_cli.proofs.Apart.{either, one_as, Apart, EndsAs, One}
-use Rattle.gtfs_cli.proofs.FolderEnds.{has_errors, one_folder, FolderEnd}
+use Rattle.gtfs_cli.specs.declared.commands.refusal.Refusal.TheVariants.{UnknownStop, UntilBeforeFrom}
+use Rattle.gtfs_cli.proofs.BoardParts.{none-bad}
+use Rattle.gtfs_cli.proofs.FolderEnds.{excludes-feed, one_dataset, one-feed, quiet-feed}
+use Rattle.gtfs_cli.proofs.OneOutcome.{one-printed, IsOne}
 use Rattle.gtfs_cli.proofs.OnePage.{one_list, one_page}
-use Rattle.gtfs_cli.proofs.Outcomes.{alike, not_there, one_dataset, over_limit, refused, told-of}
-use Rattle.gtfs_cli.proofs.ZoneEnds.{no_zone, not_readable, one_zone, same_zones, ZoneEnd}
-
--- ---- what the words ask for
-
-none_bad : (asked : BoardTexts) → HasValues asked → first_bad asked ≡ None
-none_bad asked (r, is) = rw (is.from, is.until, is.limit, is.after) refl
+use Rattle.gtfs_cli.proofs.OneRefusal.{alike, excludes-by, excludes-chain, excludes-last, excludes-values, one-chain, one-last, one-values, quiet-chain, quiet-last, quiet-values, Alike, Excludes, One, Quiet}
+use Rattle.gtfs_cli.proofs.ZoneEnds.{excludes-zone, one-zone, quiet-zone, same_zones}
 
 one_request : (asked : BoardTexts) (p q : Request) → IsRequest asked p → IsRequest asked q → p ≡ q
 one_request asked p q a b =
@@ -59,96 +56,20 @@ module _ (y z : Zone) (same : SaysSame y z) where
       let moved = subst (λ (origin : Origins). IsBoard f origin stop (instant_at origin r.from) (instant_at origin r.until) r.after xs) one_origin a in
       one-list-of-keys f (zone_origin z) stop (instant_at (zone_origin z) r.from) (instant_at (zone_origin z) r.until) r.after xs ys moved b
 
-  pub one_text : (f : Content) (stop : List ℕ) (r : Request) (t u : List ℕ) → OfBoard IsPage f y stop r (Some []) (Some t) → OfBoard IsPage f z stop r (Some []) (Some u) → t ≡ u
+  pub one_text : (f : Content) (stop : List ℕ) (r : Request) (t u : List ℕ) → IsTextOf IsPage f y stop r t → IsTextOf IsPage f z stop r u → t ≡ u
   one_text f stop r t u a b =
       let keys = one_keys (timed r.times f) stop r (keys_of a.departures) (keys_of b.departures) a.lists.board b.lists.board in
       let listed = one_list f a.departures b.departures keys a.lists.shown b.lists.shown in
       one_page y z r.limit b.departures a.left b.left t u a.lines b.lines same
       (subst (λ ds. IsPage y r.limit ds a.left (Some []) (Some t) a.lines) listed a.out) b.out
 
--- ---- how a board ends
+-- ---- of the folders
 
 module _ (limit : ℕ) (store : Store) (asked : BoardTexts) where
-  abbrev bad_value : Text → Outcome
-  bad_value option = refused (line_of (codes "bad value of ") option) 2
+  abbrev held : Option Store
+  held = Some store
 
-  abbrev unknown_stop : Outcome
-  unknown_stop = refused (line_of (codes "unknown stop") []) 1
-
-  abbrev until_before_from : Outcome
-  until_before_from = refused (line_of (codes "until lies before from") []) 2
-
-  abbrev Unknown : Outcome → Type 0
-  Unknown o = EndsAs Outcome (LacksStop limit (Some store) asked) unknown_stop o
-
-  abbrev Backward : Outcome → Type 0
-  Backward o = EndsAs Outcome (EndsBeforeItBegins limit (Some store) asked) until_before_from o
-
-  abbrev Boarded : Outcome → Type 0
-  Boarded o = IsBoarded limit (Some store) asked o
-
-  -- there is no stop, or the span ends before it begins, or there is the board
-  abbrev StopEnd : Outcome → Type 0
-  StopEnd o = Unknown o ⊎ (Backward o ⊎ Boarded o)
-
-  abbrev Read : Outcome → Type 0
-  Read o = ZoneEnd limit store asked.zone StopEnd o
-
-  -- no option is bad, and the folder is judged, and then the zone file
-  abbrev GoodEnd : Outcome → Type 0
-  GoodEnd o = FolderEnd Outcome (λ e. e) limit store asked.dir Read o
-
-  abbrev BadEnd : Outcome → Type 0
-  BadEnd o = (option : Text) × (first_bad asked ≡ Some option) × (o ≡ bad_value option)
-
-  abbrev BoardEnds : Outcome → Type 0
-  BoardEnds o = BadEnd o ⊎ (HasValues asked × GoodEnd o)
-
-  -- ---- each outcome ends so
-
-  -- what both folders and files pass before the stop is looked for
-  judged : (s : Setting limit (Some store) asked) (o : Outcome) → StopEnd o → BoardEnds o
-  judged s o end = inr (
-    (s.request, s.is_request),
-    inr (inr (inr ((s.dataset, s.holds, s.passes), inr (inr (inr (inr ((s.zone, s.holds_zone), end))))))),
-  )
-
-  refused_board : (o : Outcome) (r : Refusal) → IsCause limit (Some store) asked none_failed none_failed r → r ≢ OutOfMemory → o.text ≡ []
-      → o.told ≡ message r → o.status ≡ status_of r → BoardEnds o
-  refused_board o (BadValue option) cause enough printed told status = inl (option.now, cause, alike o (bad_value option.now) printed told status)
-  refused_board o (NotThere path) (values, inl at) enough printed told status =
-      inr (values, inl (at.1, alike o (not_there limit store asked.dir) printed (told ∙ told-of path.now asked.dir (codes " is not there") at.0) status))
-  refused_board o (NotThere path) (values, inr at) enough printed told status =
-      let end = alike o (not_there limit store asked.zone) printed (told ∙ told-of path.now asked.zone (codes " is not there") at.0) status in
-      inr (values, inr (inr (inr (at.1, inl (at.2, end)))))
-  refused_board o (Unreadable path) (values, inl at) enough printed told status = absurd (omega (arith, at.1))
-  refused_board o (Unreadable path) (values, inr (at, passing, inl rises)) enough printed told status = absurd (omega (arith, rises))
-  refused_board o (Unreadable path) (values, inr (at, passing, inr unnamed)) enough printed told status =
-      let end = alike o (not_readable limit store asked.zone) printed (told ∙ told-of path.now asked.zone (codes " cannot be read") at) status in
-      inr (values, inr (inr (inr (passing, inr (inl (unnamed, end))))))
-  refused_board o (OverLimit path) (values, inl at) enough printed told status =
-      inr (values, inr (inl (at.1, alike o (over_limit limit store asked.dir) printed (told ∙ told-of path.now asked.dir (codes " holds a file over the limit") at.0) status)))
-  refused_board o (OverLimit path) (values, inr at) enough printed told status =
-      let end = alike o (over_limit limit store asked.zone) printed (told ∙ told-of path.now asked.zone (codes " holds a file over the limit") at.0) status in
-      inr (values, inr (inr (inr (at.1, inr (inr (inl (at.2, end)))))))
-  refused_board o (HasErrors path) cause enough printed told status =
-      inr (cause.0, inr (inr (inl (cause.2, alike o (has_errors asked.dir) printed (told ∙ told-of path.now asked.dir (codes " has errors") cause.1) status))))
-  refused_board o (NoZone path) cause enough printed told status =
-      let end = alike o (no_zone limit store asked.zone) printed (told ∙ told-of path.now asked.zone (codes " is no zone file") cause.1) status in
-      inr (cause.0, inr (inr (inr (cause.2, inr (inr (inr (inl (cause.3, end))))))))
-  refused_board o UnknownStop cause enough printed told status = judged cause.0 o (inl (cause, alike o unknown_stop printed told status))
-  refused_board o UntilBeforeFrom cause enough printed told status = judged cause.0 o (inr (inl (cause, alike o until_before_from printed told status)))
-  refused_board o OutputFailed cause enough printed told status = absurd (omega (arith, cause))
-  refused_board o OutOfMemory cause enough printed told status = absurd (enough refl)
-  refused_board o _ cause enough printed told status = absurd cause
-
-  board_ends : (o : Outcome) → IsBoardOutcome limit (Some store) asked o → BoardEnds o
-  board_ends o (inl boarded) = judged boarded.text.0 o (inr (inr boarded))
-  board_ends o (inr r) = refused_board o r.refusal r.cause r.enough r.text r.told r.status
-
-  -- ---- and each comes alone
-
-  module _ (s t : Setting limit (Some store) asked) where
+  module _ (s t : Setting limit held asked) where
     same_dataset : s.dataset ≡ t.dataset
     same_dataset = one_dataset limit store asked.dir s.dataset t.dataset s.holds t.holds
 
@@ -167,37 +88,74 @@ module _ (limit : ℕ) (store : Store) (asked : BoardTexts) where
     not_backward before forward =
         forward (lies_before s.zone t.zone one_zone_of t.request (subst (λ (r : Request). LiesBefore s.zone r) same_request before))
 
-    same_text : (x y : List ℕ) → OfBoard IsPage (content_of s.dataset) s.zone asked.stop s.request (Some []) (Some x)
-        → OfBoard IsPage (content_of t.dataset) t.zone asked.stop t.request (Some []) (Some y) → x ≡ y
+    same_text : (x y : List ℕ) → IsTextOf IsPage (content_of s.dataset) s.zone asked.stop s.request x
+        → IsTextOf IsPage (content_of t.dataset) t.zone asked.stop t.request y → x ≡ y
     same_text x y a b =
-        let of_dataset = subst (λ (d : Dataset). OfBoard IsPage (content_of d) s.zone asked.stop s.request (Some []) (Some x)) same_dataset a in
-        let of_request = subst (λ (r : Request). OfBoard IsPage (content_of t.dataset) s.zone asked.stop r (Some []) (Some x)) same_request of_dataset in
+        let of_dataset = subst (λ (d : Dataset). IsTextOf IsPage (content_of d) s.zone asked.stop s.request x) same_dataset a in
+        let of_request = subst (λ (r : Request). IsTextOf IsPage (content_of t.dataset) s.zone asked.stop r x) same_request of_dataset in
         one_text s.zone t.zone one_zone_of (content_of t.dataset) asked.stop t.request x y of_request b
 
-  one_boarded : One Outcome Boarded
-  one_boarded x y a b = alike x y (same_text a.text.0 b.text.0 x.text y.text a.text.1 b.text.1) (a.told ∙ sym b.told) (a.status ∙ sym b.status)
+  one-board-text : (t u : List ℕ) (f g : Bool) → passed (IsBoardText IsPage limit held asked) t f → passed (IsBoardText IsPage limit held asked) u g → (t ≡ u) × (f ≡ g)
+  one-board-text t u f g a b = (same_text a.1.0 b.1.0 t u a.1.1 b.1.1, a.0 ∙ sym b.0)
 
-  unknown_known : Apart Outcome Unknown (λ o. Backward o ⊎ Boarded o)
-  unknown_known x y a (inl b) = not_unknown a.0.0 b.0.0 a.0.1 b.0.1
-  unknown_known x y a (inr b) = not_unknown a.0.0 b.text.0 a.0.1 b.text.1.lists.known
+  -- ---- the stop and the span
 
-  backward_boarded : Apart Outcome Backward Boarded
-  backward_boarded x y a b = not_backward a.0.0 b.text.0 a.0.2 b.text.1.lists.forward
+  one-stop-cause : (r s : Refusal) → IsStopCause limit held asked r → IsStopCause limit held asked s → Alike r s
+  one-stop-cause UnknownStop UnknownStop a b = (refl, refl)
+  one-stop-cause UnknownStop UntilBeforeFrom a b = absurd (not_unknown a.0 b.0 a.1 b.1)
+  one-stop-cause UntilBeforeFrom UnknownStop a b = absurd (not_unknown b.0 a.0 b.1 a.1)
+  one-stop-cause UntilBeforeFrom UntilBeforeFrom a b = (refl, refl)
+  one-stop-cause UnknownStop _ a b = absurd b
+  one-stop-cause UntilBeforeFrom _ a b = absurd b
+  one-stop-cause _ s a b = absurd a
 
-  one_stop : One Outcome StopEnd
-  one_stop =
-      let known = either Outcome Backward Boarded (one_as Outcome (EndsBeforeItBegins limit (Some store) asked) until_before_from) one_boarded backward_boarded in
-      either Outcome Unknown (λ (o : Outcome). Backward o ⊎ Boarded o) (one_as Outcome (LacksStop limit (Some store) asked) unknown_stop) known unknown_known
+  one-stop : One (stop_and_span limit held asked)
+  one-stop r s g h = one-stop-cause r s g.cause h.cause
 
-  one_good : One Outcome GoodEnd
-  one_good = one_folder Outcome (λ e. e) limit store asked.dir Read (one_zone limit store asked.zone StopEnd one_stop)
+  abbrev Text : Type 0
+  Text = (text : List ℕ) × IsBoardText IsPage limit held asked text
 
-  one_end : (x y : Outcome) → BoardEnds x → BoardEnds y → x ≡ y
-  one_end x y (inl a) (inl b) = a.2 ∙ ap bad_value (same_Some a.0 b.0 (sym a.1 ∙ b.1)) ∙ sym b.2
-  one_end x y (inl a) (inr b) = cc (sym (none_bad asked b.0) ∙ a.1)
-  one_end x y (inr a) (inl b) = cc (sym (none_bad asked a.0) ∙ b.1)
-  one_end x y (inr a) (inr b) = one_good x y a.1 b.1
+  no-stop-cause : Text → (r : Refusal) → IsStopCause limit held asked r → ⊥
+  no-stop-cause (text, is) UnknownStop a = not_unknown a.0 is.0 a.1 is.1.lists.known
+  no-stop-cause (text, is) UntilBeforeFrom a = not_backward a.0 is.0 a.2 is.1.lists.forward
+  no-stop-cause (text, is) _ a = absurd a
 
-pub one-board : (limit : ℕ) (store : Store) (asked : BoardTexts) (x y : Outcome) → IsBoardOutcome limit (Some store) asked x
-    → IsBoardOutcome limit (Some store) asked y → x ≡ y
-one-board limit store asked x y a b = one_end limit store asked x y (board_ends limit store asked x a) (board_ends limit store asked y b)
+  excludes-stop : Excludes Text (stop_and_span limit held asked)
+  excludes-stop text r h = no-stop-cause text r h.cause
+
+  quiet-stop : Quiet (stop_and_span limit held asked)
+  quiet-stop h = h.cause
+
+  -- ---- all that is judged
+
+  abbrev last : Judged
+  last = followed_by (stop_and_span limit held asked) sending
+
+  abbrev after_feed : Judged
+  after_feed = followed_by (zone limit held asked.zone) last
+
+  abbrev after_values : Judged
+  after_values = followed_by (feed limit held asked.dir) after_feed
+
+  one-judges : One (board_judges limit held asked)
+  one-judges = one-chain (values (judged_board asked)) after_values (one-values (judged_board asked)) (excludes-values (judged_board asked))
+      (one-chain (feed limit held asked.dir) after_feed (one-feed limit store asked.dir) (excludes-feed limit store asked.dir)
+      (one-chain (zone limit held asked.zone) last (one-zone limit store asked.zone) (excludes-zone limit store asked.zone) (one-last (stop_and_span limit held asked) one-stop)))
+
+  excludes-judges : Excludes Text (board_judges limit held asked)
+  excludes-judges = excludes-chain (values (judged_board asked)) after_values Text
+      (excludes-by Text (first_bad asked ≡ None) (values (judged_board asked)) (λ text. none-bad asked text.1.0.request text.1.0.is_request) (excludes-values (judged_board asked)))
+      (excludes-chain (feed limit held asked.dir) after_feed Text
+      (excludes-by Text (HoldsPassing limit held asked.dir) (feed limit held asked.dir) (λ text. (text.1.0.dataset, text.1.0.holds, text.1.0.passes)) (excludes-feed limit store asked.dir))
+      (excludes-chain (zone limit held asked.zone) last Text
+      (excludes-by Text (HoldsSomeZone limit held asked.zone) (zone limit held asked.zone) (λ text. (text.1.0.zone, text.1.0.holds_zone)) (excludes-zone limit store asked.zone))
+      (excludes-last Text (stop_and_span limit held asked) excludes-stop)))
+
+  quiet-judges : Quiet (board_judges limit held asked)
+  quiet-judges = quiet-chain (values (judged_board asked)) after_values (quiet-values (judged_board asked))
+      (quiet-chain (feed limit held asked.dir) after_feed (quiet-feed limit store asked.dir)
+      (quiet-chain (zone limit held asked.zone) last (quiet-zone limit store asked.zone) (quiet-last (stop_and_span limit held asked) quiet-stop)))
+
+  pub one-board : IsOne (board_plan limit held asked) held
+  one-board = one-printed held (board_judges limit held asked) (passed (IsBoardText IsPage limit held asked)) (IsBoardText IsCutShort limit held asked)
+      (IsBoardText IsStopped limit held asked) 11 one-board-text one-judges (λ t f is. excludes-judges (t, is.1)) quiet-judges

@@ -1,34 +1,26 @@
 -- A merge has one outcome.
-use Rattle.std.proofs.Common.{◌≡◌, ◌≢◌, ◌∙◌, ap, sym, subst, refl, ℕ, ℤ, inl, inr, ◌⊎◌, true, false, List, [], length, Option, Some, None, codes, arith}
+use Rattle.std.proofs.Common.{◌≡◌, ◌∙◌, ap, sym, subst, refl, ℕ, ◌<◌, true, false, Bool, List, [], length, Option, Some, None, ℤ, codes, inl, inr, arith}
 use Rattle.std.specs.Prelude.{unwrap_or}
-use Rattle.std.proofs.lemmas.Option.{same_Some}
+use Rattle.gtfs_devices.specs.Device.{Rises}
 use Rattle.gtfs_devices.specs.Folder.{Store}
 use Rattle.gtfs_table.specs.Reading.{kept_files}
 use Rattle.gtfs_rows.specs.Content.{Content}
 use Rattle.gtfs_rows.specs.Reading.{content_of}
 use Rattle.gtfs_merge.specs.Merged.{is_too_large, zone_texts_differ}
-use Rattle.clap.specs.Words.{Text}
 use Rattle.gtfs_commands.specs.Words.{MergeTexts}
-use Rattle.gtfs_cli.specs.MergeOptions.{first_bad_merge, HasMergeValues, IsMergeRequest, MergeRequest}
-use Rattle.gtfs_cli.specs.Merges.{file_limit, merge_of, report_for, with_files, CanMerge, HasLargeMerge, HasTwoZones, IsFolderMerge, IsMergeCause, MergeSetting}
+use Rattle.gtfs_cli.specs.HeldFiles.{HoldsPassing}
+use Rattle.gtfs_cli.specs.Judging.{feed, followed_by, sending, values, Judged}
+use Rattle.gtfs_cli.specs.MergeOptions.{first_bad_merge, judged_merge, IsMergeRequest, MergeRequest}
+use Rattle.gtfs_cli.specs.Merges.{file_limit, merge_judges, merge_of, merge_plan, merging, report_for, with_files, writing, CanMerge, HasLargeMerge, IsFolderMerge, IsMerged, IsMergingCause, IsWritingCause, MergeLeaves, MergeSetting}
 use Rattle.gtfs_cli.specs.Messages.{line_of, message}
-use Rattle.gtfs_cli.specs.Outcomes.{none_failed, IsMergeMade, IsMergeOutcome, MergeOutcome, Outcome}
+use Rattle.gtfs_cli.specs.Outcomes.{IsPlainRefusal}
 use Rattle.gtfs_cli.specs.Refusals.{status_of}
 use Rattle.gtfs_cli.specs.declared.commands.refusal.Refusal.{Refusal}
-use Rattle.gtfs_cli.specs.declared.commands.refusal.Refusal.TheVariants.{BadValue, NotThere, Unreadable, OverLimit, HasErrors, ZonesDiffer, MergeTooLarge, Unwritable, OutputFailed, OutOfMemory}
-use Rattle.gtfs_cli.proofs.Apart.{either, one_as, Apart, EndsAs, One}
-use Rattle.gtfs_cli.proofs.FolderEnds.{has_errors, one_folder, FolderEnd}
-use Rattle.gtfs_cli.proofs.Outcomes.{alike, not_there, one_dataset, over_limit, refused, told-of}
-
--- the same end, over the same folders
-both_alike : (x y : MergeOutcome) → x.ended ≡ y.ended → x.folders ≡ y.folders → x ≡ y
-both_alike x y ended folders = λ i. record { ended = ended i; folders = folders i }
-
-none_bad : (asked : MergeTexts) → HasMergeValues asked → first_bad_merge asked ≡ None
-none_bad asked (q, is) = rw is.near (rw is.cutoff refl)
-
-same_option : (a b : Text) → Some a ≡ Some b → a ≡ b
-same_option a b is = ap (λ (o : Option Text). unwrap_or o a) is
+use Rattle.gtfs_cli.specs.declared.commands.refusal.Refusal.TheVariants.{MergeTooLarge, OutputFailed, OutOfMemory, Unwritable, ZonesDiffer}
+use Rattle.gtfs_cli.proofs.FolderEnds.{excludes-feed, one_dataset, one-feed, quiet-feed}
+use Rattle.gtfs_cli.proofs.OneOutcome.{IsOne}
+use Rattle.gtfs_cli.proofs.OneRefusal.{excludes-by, excludes-chain, excludes-last, excludes-values, line-at, one-chain, one-last, one-values, quiet-chain, quiet-last, quiet-values, Alike, Excludes, One, Quiet}
+use Rattle.gtfs_cli.proofs.Unmerged.{none-bad-merge}
 
 one_request : (asked : MergeTexts) (p q : MergeRequest) → IsMergeRequest asked p → IsMergeRequest asked q → p ≡ q
 one_request asked p q a b =
@@ -37,117 +29,8 @@ one_request asked p q a b =
     λ i. record { near = near i; cutoff = cutoff i }
 
 module _ (limit : ℕ) (store : Store) (asked : MergeTexts) where
-  -- nothing changed
-  abbrev unchanged : Outcome → MergeOutcome
-  unchanged e = record { ended = e; folders = store }
-
-  abbrev bad_value : Text → Outcome
-  bad_value option = refused (line_of (codes "bad value of ") option) 2
-
-  abbrev zones_differ_line : Outcome
-  zones_differ_line = refused (line_of (codes "zones differ") []) 1
-
-  abbrev too_large : Outcome
-  too_large = refused (line_of (codes "merged feed too large") []) 1
-
-  abbrev not_written : Outcome
-  not_written = refused (line_of asked.out (codes " cannot be written")) 3
-
-  abbrev Differing : MergeOutcome → Type 0
-  Differing o = EndsAs MergeOutcome (HasTwoZones limit (Some store) asked) (unchanged zones_differ_line) o
-
-  abbrev Large : MergeOutcome → Type 0
-  Large o = EndsAs MergeOutcome (HasLargeMerge limit (Some store) asked) (unchanged too_large) o
-
-  abbrev Unnamed : MergeOutcome → Type 0
-  Unnamed o = EndsAs MergeOutcome (CanMerge limit (Some store) asked × (asked.out ≡ [])) (unchanged not_written) o
-
-  abbrev Made : MergeOutcome → Type 0
-  Made o = IsMergeMade limit (Some store) asked o
-
-  abbrev Fitting : MergeOutcome → Type 0
-  Fitting o = Unnamed o ⊎ Made o
-
-  abbrev OfOneZone : MergeOutcome → Type 0
-  OfOneZone o = Large o ⊎ Fitting o
-
-  -- zones differ, or a file is over the limit, or the third folder has no name, or there is the merge
-  abbrev FeedsEnd : MergeOutcome → Type 0
-  FeedsEnd o = Differing o ⊎ OfOneZone o
-
-  abbrev SecondEnd : MergeOutcome → Type 0
-  SecondEnd o = FolderEnd MergeOutcome unchanged limit store asked.b FeedsEnd o
-
-  -- an option is bad
-  abbrev BadEnd : MergeOutcome → Type 0
-  BadEnd o = (option : Text) × (first_bad_merge asked ≡ Some option) × (o ≡ unchanged (bad_value option))
-
-  -- the first folder is judged, and then the second
-  abbrev FoldersEnd : MergeOutcome → Type 0
-  FoldersEnd o = FolderEnd MergeOutcome unchanged limit store asked.a SecondEnd o
-
-  -- none is, and then the folders are judged
-  abbrev GoodEnd : MergeOutcome → Type 0
-  GoodEnd o = HasMergeValues asked × FoldersEnd o
-
-  abbrev MergeEnds : MergeOutcome → Type 0
-  MergeEnds o = BadEnd o ⊎ GoodEnd o
-
-  nothing_changed : (o : MergeOutcome) → Some o.folders ≡ Some store → (e : Outcome) → o.ended ≡ e → o ≡ unchanged e
-  nothing_changed o same e is = both_alike o (unchanged e) is (same_Some o.folders store same)
-
-  -- ---- each outcome ends so
-
-  judged : (s : MergeSetting limit (Some store) asked) (o : MergeOutcome) → FeedsEnd o → MergeEnds o
-  judged s o end = inr (
-    (s.request, s.is_request),
-    inr (inr (inr ((s.first, s.holds_first, s.first_passes), inr (inr (inr ((s.second, s.holds_second, s.second_passes), end)))))),
-  )
-
-  refused_merge : (o : MergeOutcome) → Some o.folders ≡ Some store → (r : Refusal) → IsMergeCause limit (Some store) asked none_failed none_failed r → r ≢ OutOfMemory
-      → o.ended.text ≡ [] → o.ended.told ≡ message r → o.ended.status ≡ status_of r → MergeEnds o
-  refused_merge o same (BadValue option) cause enough printed told status =
-      let end = alike o.ended (bad_value option.now) printed told status in
-      inl (option.now, cause, nothing_changed o same (bad_value option.now) end)
-  refused_merge o same (NotThere path) (values, inl at) enough printed told status =
-      let end = alike o.ended (not_there limit store asked.a) printed (told ∙ told-of path.now asked.a (codes " is not there") at.0) status in
-      inr (values, inl (at.1, nothing_changed o same (not_there limit store asked.a) end))
-  refused_merge o same (NotThere path) (values, inr at) enough printed told status =
-      let end = alike o.ended (not_there limit store asked.b) printed (told ∙ told-of path.now asked.b (codes " is not there") at.0) status in
-      inr (values, inr (inr (inr (at.1, inl (at.2, nothing_changed o same (not_there limit store asked.b) end)))))
-  refused_merge o same (Unreadable path) (values, inl at) enough printed told status = absurd (omega (arith, at.1))
-  refused_merge o same (Unreadable path) (values, inr at) enough printed told status = absurd (omega (arith, at.2))
-  refused_merge o same (OverLimit path) (values, inl at) enough printed told status =
-      let end = alike o.ended (over_limit limit store asked.a) printed (told ∙ told-of path.now asked.a (codes " holds a file over the limit") at.0) status in
-      inr (values, inr (inl (at.1, nothing_changed o same (over_limit limit store asked.a) end)))
-  refused_merge o same (OverLimit path) (values, inr at) enough printed told status =
-      let end = alike o.ended (over_limit limit store asked.b) printed (told ∙ told-of path.now asked.b (codes " holds a file over the limit") at.0) status in
-      inr (values, inr (inr (inr (at.1, inr (inl (at.2, nothing_changed o same (over_limit limit store asked.b) end))))))
-  refused_merge o same (HasErrors path) (values, inl at) enough printed told status =
-      let end = alike o.ended (has_errors asked.a) printed (told ∙ told-of path.now asked.a (codes " has errors") at.0) status in
-      inr (values, inr (inr (inl (at.1, nothing_changed o same (has_errors asked.a) end))))
-  refused_merge o same (HasErrors path) (values, inr at) enough printed told status =
-      let end = alike o.ended (has_errors asked.b) printed (told ∙ told-of path.now asked.b (codes " has errors") at.0) status in
-      inr (values, inr (inr (inr (at.1, inr (inr (inl (at.2, nothing_changed o same (has_errors asked.b) end)))))))
-  refused_merge o same ZonesDiffer cause enough printed told status =
-      let end = alike o.ended zones_differ_line printed told status in
-      judged cause.1.0 o (inl (cause.1, nothing_changed o same zones_differ_line end))
-  refused_merge o same MergeTooLarge cause enough printed told status =
-      let end = alike o.ended too_large printed told status in
-      judged cause.1.0 o (inr (inl (cause.1, nothing_changed o same too_large end)))
-  refused_merge o same (Unwritable path) (at, can, inl none) enough printed told status =
-      let end = alike o.ended not_written printed (told ∙ told-of path.now asked.out (codes " cannot be written") at) status in
-      judged can.2.setting o (inr (inr (inl ((can, none), nothing_changed o same not_written end))))
-  refused_merge o same (Unwritable path) (at, can, inr rises) enough printed told status = absurd (omega (arith, rises))
-  refused_merge o same OutputFailed cause enough printed told status = absurd (omega (arith, cause.1))
-  refused_merge o same OutOfMemory cause enough printed told status = absurd (enough refl)
-  refused_merge o same _ cause enough printed told status = absurd cause.1
-
-  merge_ends : (o : MergeOutcome) → IsMergeOutcome limit (Some store) asked o → MergeEnds o
-  merge_ends o (inl made) = judged made.written.merges.setting o (inr (inr (inr made)))
-  merge_ends o (inr r) = refused_merge o r.untouched r.refused.refusal r.refused.cause r.refused.enough r.refused.text r.refused.told r.refused.status
-
-  -- ---- and each comes alone
+  abbrev held : Option Store
+  held = Some store
 
   module _ (s t : MergeSetting limit (Some store) asked) where
     same_first : content_of s.first ≡ content_of t.first
@@ -185,52 +68,136 @@ module _ (limit : ℕ) (store : Store) (asked : MergeTexts) where
       let both = of_merge large.0 is.setting (λ q f g. is_too_large file_limit (merge_of q f g) ≡ true) large.2 in
       cc (sym (ap (is_too_large file_limit) is.content ∙ both) ∙ is.small)
 
-  differing_one : Apart MergeOutcome Differing OfOneZone
-  differing_one x y a (inl b) = not_differing a.0.0 b.0.0 a.0.1 b.0.1
-  differing_one x y a (inr (inl b)) = not_differing a.0.0 b.0.0.2.setting a.0.1 b.0.0.2.zone
-  differing_one x y a (inr (inr b)) = not_differing a.0.0 b.written.merges.setting a.0.1 b.written.merges.zone
+  -- ---- the merge
 
-  large_fitting : Apart MergeOutcome Large Fitting
-  large_fitting x y a (inl b) = not_large a.0 b.0.0.0 b.0.0.1 b.0.0.2
-  large_fitting x y a (inr b) = not_large a.0 b.written.content b.written.report b.written.merges
+  one-merging-cause : (r s : Refusal) → IsMergingCause limit held asked r → IsMergingCause limit held asked s → Alike r s
+  one-merging-cause ZonesDiffer ZonesDiffer a b = (refl, refl)
+  one-merging-cause ZonesDiffer MergeTooLarge a b = absurd (not_differing a.0 b.0 a.1 b.1)
+  one-merging-cause MergeTooLarge ZonesDiffer a b = absurd (not_differing b.0 a.0 b.1 a.1)
+  one-merging-cause MergeTooLarge MergeTooLarge a b = (refl, refl)
+  one-merging-cause ZonesDiffer _ a b = absurd b
+  one-merging-cause MergeTooLarge _ a b = absurd b
+  one-merging-cause _ s a b = absurd a
 
-  unnamed_made : Apart MergeOutcome Unnamed Made
-  unnamed_made x y a b = omega (arith, b.written.named, ap (λ (text : List ℕ). length text) a.0.1)
+  one-merging : One (merging limit held asked)
+  one-merging r s g h = one-merging-cause r s g.cause h.cause
 
-  one_made : One MergeOutcome Made
-  one_made x y a b =
-      let m = a.written in
-      let n = b.written in
+  no-merging-cause : CanMerge limit held asked → (r : Refusal) → IsMergingCause limit held asked r → ⊥
+  no-merging-cause can ZonesDiffer a = not_differing a.0 can.2.setting a.1 can.2.zone
+  no-merging-cause can MergeTooLarge a = not_large a can.0 can.1 can.2
+  no-merging-cause can _ a = absurd a
+
+  excludes-merging : Excludes (CanMerge limit held asked) (merging limit held asked)
+  excludes-merging can r h = no-merging-cause can r h.cause
+
+  quiet-merging : Quiet (merging limit held asked)
+  quiet-merging h = h.cause
+
+  -- ---- the third folder
+
+  writing-path : (before after : ℕ) (r : Refusal) → (Rises before after → ⊥) → IsWritingCause asked before after r
+      → (message r ≡ line_of asked.out (codes " cannot be written")) × (status_of r ≡ 3) × (asked.out ≡ [])
+  writing-path before after (Unwritable path) still (at, inl none) = (line-at path.now asked.out (codes " cannot be written") at, refl, none)
+  writing-path before after (Unwritable path) still (at, inr rises) = absurd (still rises)
+  writing-path before after _ still h = absurd h
+
+  unwritten : (r : Refusal) (h : IsPlainRefusal (writing asked) r) → (message r ≡ line_of asked.out (codes " cannot be written")) × (status_of r ≡ 3) × (asked.out ≡ [])
+  unwritten r h = writing-path h.before.folders h.after.folders r h.nowhere.folders h.cause
+
+  one-writing : One (writing asked)
+  one-writing r s g h =
+      let a = unwritten r g in
+      let b = unwritten s h in
+      (a.0 ∙ sym b.0, a.1 ∙ sym b.1)
+
+  named-or-not : 0 < length asked.out → asked.out ≡ [] → ⊥
+  named-or-not named none = omega (arith, named, ap (λ (t : List ℕ). length t) none)
+
+  excludes-writing : Excludes (0 < length asked.out) (writing asked)
+  excludes-writing named r h = named-or-not named (unwritten r h).2
+
+  quiet-writing : Quiet (writing asked)
+  quiet-writing h = h.cause
+
+  -- ---- all that is judged
+
+  abbrev last : Judged
+  last = followed_by (writing asked) sending
+
+  abbrev after_second : Judged
+  after_second = followed_by (merging limit held asked) last
+
+  abbrev after_first : Judged
+  after_first = followed_by (feed limit held asked.b) after_second
+
+  abbrev after_values : Judged
+  after_values = followed_by (feed limit held asked.a) after_first
+
+  one-judges : One (merge_judges limit held asked)
+  one-judges = one-chain (values (judged_merge asked)) after_values (one-values (judged_merge asked)) (excludes-values (judged_merge asked))
+      (one-chain (feed limit held asked.a) after_first (one-feed limit store asked.a) (excludes-feed limit store asked.a)
+      (one-chain (feed limit held asked.b) after_second (one-feed limit store asked.b) (excludes-feed limit store asked.b)
+      (one-chain (merging limit held asked) last one-merging excludes-merging (one-last (writing asked) one-writing))))
+
+  abbrev Merged : Type 0
+  Merged = (now : Option Store) × (text : List ℕ) × IsMerged limit held asked now text
+
+  excludes-judges : Excludes Merged (merge_judges limit held asked)
+  excludes-judges = excludes-chain (values (judged_merge asked)) after_values Merged
+      (excludes-by Merged (first_bad_merge asked ≡ None) (values (judged_merge asked)) (λ m. none-bad-merge asked m.2.merges.setting.request m.2.merges.setting.is_request)
+      (excludes-values (judged_merge asked)))
+      (excludes-chain (feed limit held asked.a) after_first Merged
+      (excludes-by Merged (HoldsPassing limit held asked.a) (feed limit held asked.a)
+      (λ m. (m.2.merges.setting.first, m.2.merges.setting.holds_first, m.2.merges.setting.first_passes)) (excludes-feed limit store asked.a))
+      (excludes-chain (feed limit held asked.b) after_second Merged
+      (excludes-by Merged (HoldsPassing limit held asked.b) (feed limit held asked.b)
+      (λ m. (m.2.merges.setting.second, m.2.merges.setting.holds_second, m.2.merges.setting.second_passes)) (excludes-feed limit store asked.b))
+      (excludes-chain (merging limit held asked) last Merged
+      (excludes-by Merged (CanMerge limit held asked) (merging limit held asked) (λ m. (m.2.content, m.2.report, m.2.merges)) excludes-merging)
+      (excludes-last Merged (writing asked) (excludes-by Merged (0 < length asked.out) (writing asked) (λ m. m.2.named) excludes-writing)))))
+
+  quiet-judges : Quiet (merge_judges limit held asked)
+  quiet-judges = quiet-chain (values (judged_merge asked)) after_values (quiet-values (judged_merge asked))
+      (quiet-chain (feed limit held asked.a) after_first (quiet-feed limit store asked.a)
+      (quiet-chain (feed limit held asked.b) after_second (quiet-feed limit store asked.b)
+      (quiet-chain (merging limit held asked) last quiet-merging (quiet-last (writing asked) quiet-writing))))
+
+  -- ---- what is left
+
+  -- a folder that could not be written, though nothing failed, has no name
+  unnamed : (path : _) (h : IsPlainRefusal (merge_judges limit held asked) (Unwritable path)) → asked.out ≡ []
+  unnamed path h = by h.cause
+    where
+      by : (merge_judges limit held asked).Refuses h.before h.after (Unwritable path) → asked.out ≡ []
+      by (inl bad) = absurd bad
+      by (inr (a, inl bad)) = absurd bad
+      by (inr (a, inr (b, inl bad))) = absurd bad
+      by (inr (a, inr (b, inr (c, inl bad)))) = absurd bad
+      by (inr (a, inr (b, inr (c, inr (d, inl (at, inl none)))))) = none
+      by (inr (a, inr (b, inr (c, inr (d, inl (at, inr rises)))))) = absurd (h.nowhere.folders rises)
+      by (inr (a, inr (b, inr (c, inr (d, inr (e, bad)))))) = absurd bad
+
+  nothing-left : (now : Option Store) (part : List ℕ) (r : Refusal) → IsPlainRefusal (merge_judges limit held asked) r → MergeLeaves limit held asked now part r → (now ≡ held) × (part ≡ [])
+  nothing-left now part (Unwritable path) h left =
+      elim left.ends [ inl same ↦ (same.1, left.nothing) | inr stopped ↦ absurd (named-or-not stopped.0 (unnamed path h)) ]
+  nothing-left now part OutputFailed h left = absurd (quiet-judges h)
+  nothing-left now part OutOfMemory h left = absurd (h.enough refl)
+  nothing-left now part _ h left = left
+
+  one-done : (now later : Option Store) (t u : List ℕ) (f g : Bool) → (f ≡ false) × IsMerged limit held asked now t → (g ≡ false) × IsMerged limit held asked later u
+      → (now ≡ later) × (t ≡ u) × (f ≡ g)
+  one-done now later t u f g (no, m) (none, n) =
       let content = same_content m.content n.content m.report n.report m.merges n.merges in
-      let report = same_report m.content n.content m.report n.report m.merges n.merges in
-      let ended = alike x.ended y.ended (m.sent ∙ report ∙ sym n.sent) (a.told ∙ sym b.told) (a.status ∙ sym b.status) in
-      let files = m.files ∙ ap (λ (c : Content). Some (with_files c asked.out kept_files store)) content ∙ sym n.files in
-      both_alike x y ended (same_Some x.folders y.folders files)
+      let report = same_report m.content n.content m.report n.report m.merges n.merges in (
+        m.files ∙ ap (λ (c : Content). Some (with_files c asked.out kept_files store)) content ∙ sym n.files,
+        m.of_report ∙ report ∙ sym n.of_report,
+        no ∙ sym none,
+      )
 
-  one_feeds : One MergeOutcome FeedsEnd
-  one_feeds =
-      let fitting = either MergeOutcome Unnamed Made (one_as MergeOutcome (CanMerge limit (Some store) asked × (asked.out ≡ [])) (unchanged not_written)) one_made unnamed_made in
-      let one = either MergeOutcome Large Fitting (one_as MergeOutcome (HasLargeMerge limit (Some store) asked) (unchanged too_large)) fitting large_fitting in
-      either MergeOutcome Differing OfOneZone (one_as MergeOutcome (HasTwoZones limit (Some store) asked) (unchanged zones_differ_line)) one differing_one
-
-  one_second : One MergeOutcome SecondEnd
-  one_second = one_folder MergeOutcome unchanged limit store asked.b FeedsEnd one_feeds
-
-  one_folders : One MergeOutcome FoldersEnd
-  one_folders = one_folder MergeOutcome unchanged limit store asked.a SecondEnd one_second
-
-  bad_good : Apart MergeOutcome BadEnd GoodEnd
-  bad_good x y a b = cc (sym (none_bad asked b.0) ∙ a.1)
-
-  one_bad : One MergeOutcome BadEnd
-  one_bad x y a b = a.2 ∙ ap (λ (option : Text). unchanged (bad_value option)) (same_option a.0 b.0 (sym a.1 ∙ b.1)) ∙ sym b.2
-
-  one_good : One MergeOutcome GoodEnd
-  one_good x y a b = one_folders x y a.1 b.1
-
-  one_end : One MergeOutcome MergeEnds
-  one_end = either MergeOutcome BadEnd GoodEnd one_bad one_good bad_good
-
-pub one-merge : (limit : ℕ) (store : Store) (asked : MergeTexts) (x y : MergeOutcome) → IsMergeOutcome limit (Some store) asked x
-    → IsMergeOutcome limit (Some store) asked y → x ≡ y
-one-merge limit store asked x y a b = one_end limit store asked x y (merge_ends limit store asked x a) (merge_ends limit store asked y b)
+  pub one-merge : IsOne (merge_plan limit held asked) held
+  one-merge = record {
+    done = one-done;
+    refusal = one-judges;
+    apart = λ now t f m r h. excludes-judges (now, t, m.1) r h;
+    nothing = nothing-left;
+  }

@@ -8,17 +8,9 @@ use Rattle.gtfs_cli.specs.Sending.{SendsBeginning}
 
 -- ---- beginnings
 
--- nothing is a beginning of any text
-pub none-sent : (a : Option (List ℕ)) (text : List ℕ) → SendsBeginning a a text
-none-sent a text = record { sent = []; left = text; whole = refl; out = Appends-nil a }
-
 -- the first bytes of a text are a beginning of it
 pub some-sent : (a b : Option (List ℕ)) (text : List ℕ) (n : ℕ) → Appends a b (take n text) → SendsBeginning a b text
 some-sent a b text n out = record { sent = take n text; left = drop n text; whole = sym (take-append-drop n text); out = out }
-
--- the bytes of a line in which a text was made in place of what it held are that text
-pub line-made : (text bytes line cleared : List ℕ) → bytes ≡ line → line ≡ cleared ++ text → cleared ≡ [] → bytes ≡ text
-line-made text bytes line cleared are made empty = are ∙ made ∙ ap (λ (t : List ℕ). t ++ text) empty
 
 -- ---- parts
 

@@ -9,7 +9,7 @@ use Rattle.gtfs_devices.specs.declared.folders.FolderFault.TheVariants as faults
 use Rattle.gtfs_table.proofs.FolderFacts.{calls-more}
 use Rattle.gtfs_table.proofs.StoreFacts.{on_ok-always, on_ok-map}
 use Rattle.gtfs_cli.specs.Calls.{MakesAtMost}
-use Rattle.gtfs_cli.specs.Reads.{Asks, Reads}
+use Rattle.gtfs_cli.specs.Reads.{CallsFolders, Reads}
 use Rattle.gtfs_cli.specs.Refusals.{TellsFolders}
 use Rattle.gtfs_cli.specs.Seen.{Device}
 use Rattle.gtfs_cli.specs.declared.commands.refusal.Refusal.{Refusal}
@@ -24,7 +24,7 @@ told-up (Err y) e P is h = subst P (sym is) h
 -- ---- one part
 
 -- all calls were made and none failed, however it ends
-pub asks-made : {T : Type 0} (n : ℕ) (a b : Device) (r : Result T Refusal) → b.failures ≡ a.failures → MakesCalls n a.calls b.calls → Asks n a b r
+pub asks-made : {T : Type 0} (n : ℕ) (a b : Device) (r : Result T Refusal) → b.failures ≡ a.failures → MakesCalls n a.calls b.calls → CallsFolders n a b r
 asks-made n a b r same made = record {
   grows = omega (arith, same);
   no_failure = on_ok-always r _ same;
@@ -35,7 +35,7 @@ asks-made n a b r same made = record {
 }
 
 -- no call was made before an error
-pub asks-none : {T : Type 0} (n : ℕ) (a : Device) (r : Result T Refusal) (e : Refusal) → IsErrAnd r (λ y. y ≡ e) → Asks n a a r
+pub asks-none : {T : Type 0} (n : ℕ) (a : Device) (r : Result T Refusal) (e : Refusal) → IsErrAnd r (λ y. y ≡ e) → CallsFolders n a a r
 asks-none n a (Ok x) e is = absurd is
 asks-none n a (Err y) e is = record {
   grows = omega arith;
@@ -49,7 +49,7 @@ asks-none n a (Err y) e is = record {
 -- a fault ended the calls; that of a device is the end of the last one
 pub asks-fault : {T : Type 0} (n : ℕ) (a b : Device) (fault : FolderFault) (e : Refusal) → a.failures ≤ b.failures → CountsFault fault a.failures b.failures
     → TellsFolders a.failures b.failures e → MakesAtMost n a.calls b.calls → (fault ≡ faults.Read → FailsAtLast b.calls) → (fault ≡ faults.Write → FailsAtLast b.calls)
-    → Asks n {T = T} a b (Err e)
+    → CallsFolders n {T = T} a b (Err e)
 asks-fault n a b fault e grows count told few read write = record {
   grows = grows;
   no_failure = tt;
@@ -62,10 +62,10 @@ asks-fault n a b fault e grows count told few read write = record {
 -- ---- one part after another
 
 -- what comes after the calls makes none, however it ends
-pub asks-done : {T U : Type 0} (n : ℕ) (a b : Device) (x : T) (r : Result U Refusal) → Asks n a b (Ok x) → Asks n a b r
+pub asks-done : {T U : Type 0} (n : ℕ) (a b : Device) (x : T) (r : Result U Refusal) → CallsFolders n a b (Ok x) → CallsFolders n a b r
 asks-done n a b x r h = asks-made n a b r h.no_failure h.called
 
-pub asks-then : {T U : Type 0} (m n : ℕ) (a b c : Device) (x : T) (r : Result U Refusal) → Asks m a b (Ok x) → Asks n b c r → Asks (m + n) a c r
+pub asks-then : {T U : Type 0} (m n : ℕ) (a b c : Device) (x : T) (r : Result U Refusal) → CallsFolders m a b (Ok x) → CallsFolders n b c r → CallsFolders (m + n) a c r
 asks-then m n a b c x r h k = record {
   grows = omega (arith, h.grows, k.grows);
   no_failure = on_ok-map r _ _ (λ same. same ∙ h.no_failure) k.no_failure;
@@ -75,11 +75,11 @@ asks-then m n a b c x r h k = record {
   last = λ differ. k.last (λ same. differ (same ∙ h.no_failure));
 }
 
-pub asks-as : {T : Type 0} (m n : ℕ) (a b : Device) (r : Result T Refusal) → m ≡ n → Asks m a b r → Asks n a b r
-asks-as m n a b r same h = subst (λ (k : ℕ). Asks k a b r) same h
+pub asks-as : {T : Type 0} (m n : ℕ) (a b : Device) (r : Result T Refusal) → m ≡ n → CallsFolders m a b r → CallsFolders n a b r
+asks-as m n a b r same h = subst (λ (k : ℕ). CallsFolders k a b r) same h
 
 -- an error that is passed on, of a part that makes no more calls
-pub asks-up : {T U : Type 0} (m n : ℕ) (a b : Device) (r : Result U Refusal) (e : Refusal) → m ≤ n → IsErrAnd r (λ y. y ≡ e) → Asks m {T = T} a b (Err e) → Asks n a b r
+pub asks-up : {T U : Type 0} (m n : ℕ) (a b : Device) (r : Result U Refusal) (e : Refusal) → m ≤ n → IsErrAnd r (λ y. y ≡ e) → CallsFolders m {T = T} a b (Err e) → CallsFolders n a b r
 asks-up m n a b (Ok x) e few is h = absurd is
 asks-up m n a b (Err y) e few is h = record {
   grows = h.grows;

@@ -1,44 +1,42 @@
--- What was printed is the report of the dataset that the folder holds.
-use Rattle.std.proofs.Common.{◌≡◌, ◌∙◌, ap, sym, subst, ℕ, ◌+◌, ◌-◌, ◌<◌, ◌≤◌, nat_lt, List, [], ◌∷◌, ◌++◌, append-nil, length, map, take, get_or, Option, arith}
-use Rattle.std.specs.Prelude.{count_by, flat_map}
-use Rattle.std.specs.Io.KnownBytes.{Appends}
-use Rattle.std.proofs.KnownBytes.{Appends-trans}
-use Rattle.std.proofs.lemmas.List.{length-map, map_more, take_all}
-use Rattle.std.proofs.lemmas.List.Concat.{flat_map-append}
+-- How it ends to send the report of problems out: their lines, and then their counts.
+use Rattle.std.proofs.Common.{◌≡◌, ◌∙◌, ap, refl, sym, ℕ, ◌+◌, ◌-◌, ◌<◌, ◌≤◌, Bool, List, ◌++◌, length, map, take, get_or, Result, Err, arith}
+use Rattle.std.specs.Prelude.{count_by, flat_map, IsErrAnd, ⊤}
+use Rattle.std.proofs.lemmas.List.{length-map}
+use Rattle.std.proofs.lemmas.List.Folds.{flat_map-map}
 use Rattle.gtfs_columns.specs.Codes.{is_error}
 use Rattle.gtfs_columns.specs.Problems.{Problem}
-use Rattle.gtfs_rules.specs.Report.{counts_line, problem_line}
 use Rattle.gtfs_columns.specs.View.{problem_of}
 use Rattle.gtfs_columns.specs.declared.problem.Problem.{Problem as Lent}
-use Rattle.gtfs_cli.specs.Checking.{counts_text, Prints}
-use Rattle.gtfs_cli.proofs.Counted.{counts-line, error-counted}
+use Rattle.gtfs_rules.specs.Report.{counts_line, problem_line, report_text}
+use Rattle.gtfs_cli.specs.Checking.{counts_text}
+use Rattle.gtfs_cli.specs.Sending.{IsSent, Output}
+use Rattle.gtfs_cli.specs.declared.commands.refusal.Refusal.{Refusal}
+use Rattle.gtfs_cli.proofs.Counted.{counts-line}
+use Rattle.gtfs_cli.proofs.Sent.{item-failed, items-sent, sent-both, sent-first, sent-same, SentWhole}
 
-abbrev pub lines : List Lent → List ℕ
-lines ps = flat_map problem_line (map problem_of ps)
+abbrev pub shown_problem : Lent → List ℕ
+shown_problem p = problem_line (problem_of p)
 
-pub lines_more : (ps : List Lent) (i : ℕ) (p : Lent) → i < length ps → lines (take i ps) ++ problem_line (problem_of (get_or ps i p)) ≡ lines (take (i + 1) ps)
-lines_more ps i p inside =
-    let line = problem_line (problem_of (get_or ps i p)) in
-    ap (λ t. lines (take i ps) ++ t) (sym (append-nil line))
-    ∙ sym (flat_map-append problem_line (map problem_of (take i ps)) (problem_of (get_or ps i p) ∷ []))
-    ∙ ap (λ qs. flat_map problem_line qs) (sym (map_more problem_of ps i p inside))
+module _ (ps : List Lent) (i : ℕ) (a b c : Output) where
+  made : flat_map shown_problem ps ++ counts_line (map problem_of ps) ≡ report_text (map problem_of ps)
+  made = ap (λ (t : List ℕ). t ++ counts_line (map problem_of ps)) (sym (flat_map-map problem_line problem_of ps))
 
--- one more line went out
-pub line-sent : (a b c : Option (List ℕ)) (ps : List Lent) (i : ℕ) (p : Lent) → i < length ps → Appends a b (flat_map problem_line (map problem_of (take i ps)))
-    → Appends b c (problem_line (problem_of (get_or ps i p))) → Appends a c (flat_map problem_line (map problem_of (take (i + 1) ps)))
-line-sent a b c ps i p inside first then =
-    subst (λ (t : List ℕ). Appends a c t) (lines_more ps i p inside) (Appends-trans a b c (lines (take i ps)) (problem_line (problem_of (get_or ps i p))) first then)
+  -- a line was not sent whole, and a `?` passes the error on
+  pub line-failed : {S T : Type 0} (p : Lent) (e : Refusal) (r : Result T Refusal) → IsErrAnd r (λ y. y ≡ e) → i < length ps → SentWhole (flat_map shown_problem (take i ps)) a b
+      → IsSent (shown_problem (get_or ps i p)) {T = S} b c (Err e) → IsSent (report_text (map problem_of ps)) a c r
+  line-failed p e r passes inside before one =
+      let lines = flat_map shown_problem ps in
+      let counts = counts_line (map problem_of ps) in
+      let failed : IsSent lines {T = ⊤} a c (Err e) = item-failed shown_problem ps i p _ refl inside a b c e (Err e) refl before one in
+      sent-same (lines ++ counts) (report_text (map problem_of ps)) a c r made (sent-first lines counts a c e r passes failed)
 
--- all lines went out, and the counts
-pub all-sent : (a b c : Option (List ℕ)) (ps : List Lent) (i errors : ℕ) → length ps ≤ i → errors ≡ count_by (λ p. is_error p.code) (map problem_of ps) → errors ≤ length ps
-    → Appends a b (flat_map problem_line (map problem_of (take i ps))) → Appends b c (counts_text errors (length ps - errors))
-    → Prints a c (map problem_of ps) (nat_lt 0 errors)
-all-sent a b c ps i errors end is within first then =
-    let qs : List Problem = map problem_of ps in
-    let all : errors + (length ps - errors) ≡ length qs = omega (arith, within, length-map ps problem_of) in
-    let sent = subst (λ (xs : List Lent). Appends a b (flat_map problem_line (map problem_of xs))) (take_all i ps end) first in
-    let counted = subst (λ (t : List ℕ). Appends b c t) (counts-line qs errors (length ps - errors) is all) then in
-    record {
-      text = Appends-trans a b c (flat_map problem_line qs) (counts_line qs) sent counted;
-      answer = error-counted qs errors is;
-    }
+  -- all lines were sent, and then the counts ended so
+  pub counts-ended : {T : Type 0} (errors : ℕ) (r : Result T Refusal) → length ps ≤ i → errors ≡ count_by (λ p. is_error p.code) (map problem_of ps) → errors ≤ length ps
+      → SentWhole (flat_map shown_problem (take i ps)) a b → IsSent (counts_text errors (length ps - errors)) b c r → IsSent (report_text (map problem_of ps)) a c r
+  counts-ended errors r end is within before then =
+      let qs : List Problem = map problem_of ps in
+      let lines = flat_map shown_problem ps in
+      let counts = counts_text errors (length ps - errors) in
+      let all : errors + (length ps - errors) ≡ length qs = omega (arith, within, length-map ps problem_of) in
+      let whole = ap (λ (t : List ℕ). lines ++ t) (counts-line qs errors (length ps - errors) is all) ∙ made in
+      sent-same (lines ++ counts) (report_text qs) a c r whole (sent-both lines counts a b c tt r (items-sent shown_problem ps i a b tt end before) then)

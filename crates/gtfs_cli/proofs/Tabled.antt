@@ -1,173 +1,52 @@
--- What was printed of a timetable, and why there is none.
-use Rattle.std.proofs.Common.{◌≡◌, ◌∙◌, ap, sym, subst, refl, ℕ, ◌+◌, ◌<◌, ◌≤◌, inl, inr, Bool, true, false, List, [], ◌∷◌, ◌++◌, append-nil, append_assoc, length, map, take, drop, take-append-drop, get_or, Option, Result, Ok, Err, arith}
-use Rattle.std.specs.Prelude.{flat_map, IfErr, IfOk, OnErr, OnOk}
-use Rattle.std.specs.Io.KnownBytes.{Appends, Keeps}
-use Rattle.std.proofs.lemmas.List.{map-append, map_more, take_all}
-use Rattle.std.proofs.lemmas.List.Concat.{flat_map-append}
-use Rattle.std.proofs.KnownBytes.{Appends-trans}
+-- From the parts of a timetable to what is printed of the folder that the words name.
+use Rattle.std.proofs.Common.{◌≡◌, ◌⊎◌, ⊤, ℕ, true, false, List, Option, None, inl, inr, refl, subst}
 use Rattle.std.proofs.lemmas.Bool.{true_from_ne_false}
 use Rattle.gtfs_devices.specs.Folder.{Store}
 use Rattle.gtfs_rows.specs.Content.{Content}
 use Rattle.gtfs_rows.specs.Views.{content_of_parts}
 use Rattle.gtfs_rows.specs.declared.parts.Parts.{Parts as Feed}
-use Rattle.gtfs_board.specs.LentSheets.{plain_sheet}
-use Rattle.gtfs_board.specs.Timetable.{is_route, sheet_text}
-use Rattle.gtfs_board.specs.declared.sheet.Sheet.{Sheet}
+use Rattle.gtfs_board.specs.Timetable.{is_route}
 use Rattle.gtfs_commands.specs.Words.{TimetableTexts}
 use Rattle.gtfs_cli.specs.Boards.{HoldsFeed}
-use Rattle.gtfs_cli.specs.Messages.{message}
-use Rattle.gtfs_cli.specs.Refusals.{status_in}
-use Rattle.gtfs_cli.specs.Failures.{Failures}
-use Rattle.gtfs_cli.specs.Sending.{IsSendingCause, Output, Sends, SendsBeginning}
-use Rattle.gtfs_cli.specs.TimetableOptions.{IsTimetableRequest, TimetableRequest}
-use Rattle.gtfs_cli.specs.TimetableRun.{IsTabled, IsTimetableRun, IsUntabled}
-use Rattle.gtfs_cli.specs.Timetables.{timetable_text, BeginsSheets, BeginsTimetable, EndsSheets, EndsTimetable, IsFirstBadTimetable, IsSheetsCause, IsTimetableCause, IsTimetableText, PrintsTimetable, TimetableSetting}
+use Rattle.gtfs_cli.specs.Failures.{FailedNowhere}
+use Rattle.gtfs_cli.specs.Plan.{failures_of, IsRefusedIn}
+use Rattle.gtfs_cli.specs.Seen.{Devices}
+use Rattle.gtfs_cli.specs.Sending.{Begins, IsSendingCause}
+use Rattle.gtfs_cli.specs.TimetableOptions.{first_bad_timetable, IsTimetableRequest, TimetableRequest}
+use Rattle.gtfs_cli.specs.Timetables.{timetable_judges, timetable_text, AreSheets, IsRouteCause, IsSheetsCause, IsTimetableText, TimetableSetting}
 use Rattle.gtfs_cli.specs.declared.commands.refusal.Refusal.{Refusal}
-use Rattle.gtfs_cli.specs.declared.commands.refusal.Refusal.TheVariants.{BadValue, UnknownRoute, OutputFailed, OutOfMemory}
-use Rattle.gtfs_cli.proofs.Ended.{at_zero, not_well}
-use Rattle.gtfs_cli.proofs.Endings.{counts}
-use Rattle.gtfs_cli.proofs.Parts.{Leaves, one-cut}
+use Rattle.gtfs_cli.specs.declared.commands.refusal.Refusal.TheVariants.{UnknownRoute, OutOfMemory}
+use Rattle.gtfs_cli.proofs.BoardParts.{has-passing}
 
--- ---- values of options
+-- no value is bad
+pub none-bad-timetable : (asked : TimetableTexts) (r : TimetableRequest) → IsTimetableRequest asked r → first_bad_timetable asked ≡ None
+none-bad-timetable asked r is = rw (is.day, is.direction) refl
 
-pub bad-timetable-cause : (limit : ℕ) (held : Option Store) (asked : TimetableTexts) (before after : Failures) (r : Refusal) → IsFirstBadTimetable asked r
-    → IsTimetableCause limit held asked before after r
-bad-timetable-cause limit held asked before after (BadValue option) h = h
-bad-timetable-cause limit held asked before after _ h = absurd h
-
-pub bad-timetable-ends : (limit : ℕ) (held : Option Store) (asked : TimetableTexts) (old new : Option (List ℕ)) (r : Refusal) → IsFirstBadTimetable asked r → Keeps old new
-    → EndsTimetable limit held asked old new r
-bad-timetable-ends limit held asked old new (BadValue option) h keeps = keeps
-bad-timetable-ends limit held asked old new _ h keeps = absurd h
-
--- ---- what went out
-
--- where the refusal has a cause whatever the output did, nothing went out
-pub none-tabled : (limit : ℕ) (held : Option Store) (asked : TimetableTexts) (x y : ℕ) (r : Refusal) (old new : Option (List ℕ))
-    → ((output : ℕ) → IsTimetableCause limit held asked (counts x output) (counts y output) r) → Keeps old new
-    → EndsTimetable limit held asked old new r
-none-tabled limit held asked x y OutputFailed old new h keeps = absurd (omega (arith, h 0))
-none-tabled limit held asked x y OutOfMemory old new h keeps = inl keeps
-none-tabled limit held asked x y _ old new h keeps = keeps
-
-abbrev pub texts : List Sheet → List ℕ
-texts ss = flat_map sheet_text (map plain_sheet ss)
-
-texts_more : (ss : List Sheet) (i : ℕ) (s : Sheet) → i < length ss → texts (take i ss) ++ sheet_text (plain_sheet (get_or ss i s)) ≡ texts (take (i + 1) ss)
-texts_more ss i s inside =
-    let text = sheet_text (plain_sheet (get_or ss i s)) in
-    ap (λ t. texts (take i ss) ++ t) (sym (append-nil text))
-    ∙ sym (flat_map-append sheet_text (map plain_sheet (take i ss)) (plain_sheet (get_or ss i s) ∷ []))
-    ∙ ap (λ qs. flat_map sheet_text qs) (sym (map_more plain_sheet ss i s inside))
-
--- one more sheet went out
-pub sheet-sent : (a b c : Option (List ℕ)) (ss : List Sheet) (i : ℕ) (s : Sheet) → i < length ss → s ≡ get_or ss i s → Appends a b (texts (take i ss))
-    → Appends b c (sheet_text (plain_sheet s)) → Appends a c (texts (take (i + 1) ss))
-sheet-sent a b c ss i s inside is first then =
-    let text = sheet_text (plain_sheet (get_or ss i s)) in
-    let more = subst (λ (x : Sheet). Appends b c (sheet_text (plain_sheet x))) is then in
-    subst (λ (t : List ℕ). Appends a c t) (texts_more ss i s inside) (Appends-trans a b c (texts (take i ss)) text first more)
-
--- all of them did
-pub sheets-sent : (a b : Option (List ℕ)) (ss : List Sheet) (i : ℕ) → length ss ≤ i → Appends a b (texts (take i ss)) → Appends a b (texts ss)
-sheets-sent a b ss i end out = subst (λ (xs : List Sheet). Appends a b (texts xs)) (take_all i ss end) out
-
--- the texts of sheets, from that of the sheet at an index on
-from_sheet : (ss : List Sheet) (i : ℕ) (s : Sheet) → i < length ss
-    → texts ss ≡ texts (take i ss) ++ (sheet_text (plain_sheet (get_or ss i s)) ++ texts (drop (i + 1) ss))
-from_sheet ss i s inside =
-    let text = sheet_text (plain_sheet (get_or ss i s)) in
-    let past = texts (drop (i + 1) ss) in
-    ap texts (sym (take-append-drop (i + 1) ss)) ∙ ap (flat_map sheet_text) (map-append plain_sheet (take (i + 1) ss) (drop (i + 1) ss))
-    ∙ flat_map-append sheet_text (map plain_sheet (take (i + 1) ss)) (map plain_sheet (drop (i + 1) ss))
-    ∙ ap (λ (t : List ℕ). t ++ past) (sym (texts_more ss i s inside)) ∙ append_assoc (texts (take i ss)) text past
-
--- the sheets before one of which a beginning went out
-pub sheet-cut : (a b c : Option (List ℕ)) (ss : List Sheet) (i : ℕ) (s : Sheet) → i < length ss → s ≡ get_or ss i s → Appends a b (texts (take i ss))
-    → SendsBeginning b c (sheet_text (plain_sheet s)) → SendsBeginning a c (texts ss)
-sheet-cut a b c ss i s inside is out begun =
-    let text = sheet_text (plain_sheet (get_or ss i s)) in
-    let past = texts (drop (i + 1) ss) in
-    let left : Leaves a b (texts ss) (text ++ past) = record { sent = texts (take i ss); whole = from_sheet ss i s inside; out = out } in
-    one-cut a b c (texts ss) (text ++ past) text past left refl (subst (λ (x : Sheet). SendsBeginning b c (sheet_text (plain_sheet x))) is begun)
-
--- ---- of a feed
-
--- a route that is not refused is one of the feed
 pub known-route : (f : Content) (route : List ℕ) → (is_route f route ≡ false → ⊥) → is_route f route ≡ true
 known-route f route never = true_from_ne_false (is_route f route) never
 
-pub sending-cause : (f : Content) (route : List ℕ) (before after : ℕ) (r : Refusal) → IsSendingCause before after r → IsSheetsCause f route before after r
-sending-cause f route before after OutputFailed h = h
-sending-cause f route before after OutOfMemory h = h
-sending-cause f route before after _ h = absurd h
+module _ (limit : ℕ) (held : Option Store) (asked : TimetableTexts) (feed : Feed) (r : TimetableRequest) (h : HoldsFeed limit held asked.dir feed) (is : IsTimetableRequest asked r) where
+  abbrev setting : TimetableSetting limit held asked
+  setting = record { dataset = h.dataset; request = r; holds = h.holds; passes = h.is_feed.0; is_request = is }
 
-sending-ends : (f : Content) (route : List ℕ) (q : TimetableRequest) (x y : ℕ) (old new : Option (List ℕ)) (r : Refusal) → IsSendingCause x y r
-    → BeginsSheets f route q old new → EndsSheets f route q old new r
-sending-ends f route q x y old new OutputFailed h begun = begun
-sending-ends f route q x y old new OutOfMemory h begun = inr begun
-sending-ends f route q x y old new _ h begun = absurd h
-
--- the text of sheets was sent, or a beginning of it
-pub sent-ends : {A : Type 0} (f : Content) (route : List ℕ) (q : TimetableRequest) (x y : ℕ) (old new : Option (List ℕ)) (r : Result A Refusal)
-    → is_route f route ≡ true → IfErr r (IsSendingCause x y) → OnErr r (SendsBeginning old new (timetable_text f route q)) → IfErr r (EndsSheets f route q old new)
-sent-ends f route q x y old new (Ok done) known cause begun = tt
-sent-ends f route q x y old new (Err refusal) known cause begun = sending-ends f route q x y old new refusal cause (known, begun)
-
--- where the refusal has a cause whatever the output did, nothing was sent
-pub no-sheets : (f : Content) (route : List ℕ) (q : TimetableRequest) (old new : Option (List ℕ)) (r : Refusal)
-    → ((count : ℕ) → IsSheetsCause f route count count r) → Keeps old new → EndsSheets f route q old new r
-no-sheets f route q old new OutputFailed h keeps = absurd (omega (arith, h 0))
-no-sheets f route q old new OutOfMemory h keeps = inl keeps
-no-sheets f route q old new _ h keeps = keeps
-
--- ---- from a feed to what the folder holds
-
-module _ (limit : ℕ) (held : Option Store) (asked : TimetableTexts) (feed : Feed) (q : TimetableRequest) (h : HoldsFeed limit held asked.dir feed)
-    (is : IsTimetableRequest asked q) where
-  abbrev tabled_setting : TimetableSetting limit held asked
-  tabled_setting = record { dataset = h.dataset; request = q; holds = h.holds; passes = h.is_feed.0; is_request = is }
-
-  timetable_is : is_route (content_of_parts feed) asked.route ≡ true → IsTimetableText limit held asked (timetable_text (content_of_parts feed) asked.route q)
-  timetable_is known = record {
-    setting = tabled_setting;
+  pub text-of : (text : List ℕ) → AreSheets (content_of_parts feed) asked.route r text → IsTimetableText limit held asked text
+  text-of text (known, same) = record {
+    setting = setting;
     known = subst (λ (f : Content). is_route f asked.route ≡ true) h.is_feed.1 known;
-    is_text = ap (λ (f : Content). timetable_text f asked.route q) h.is_feed.1;
+    is_text = subst (λ (f : Content). text ≡ timetable_text f asked.route r) h.is_feed.1 same;
   }
 
-  pub tabled-of : (old new : Option (List ℕ)) → is_route (content_of_parts feed) asked.route ≡ true
-      → Appends old new (timetable_text (content_of_parts feed) asked.route q) → PrintsTimetable limit held asked old new
-  tabled-of old new known out = (timetable_text (content_of_parts feed) asked.route q, timetable_is known, out)
+  pub part-of : (part : List ℕ) → Begins (AreSheets (content_of_parts feed) asked.route r) part → Begins (IsTimetableText limit held asked) part
+  part-of part b = record { text = b.text; left = b.left; is_text = text-of b.text b.is_text; whole = b.whole }
 
-  begun-of : (old new : Option (List ℕ)) → BeginsSheets (content_of_parts feed) asked.route q old new → BeginsTimetable limit held asked old new
-  begun-of old new begun = (timetable_text (content_of_parts feed) asked.route q, timetable_is begun.0, begun.1)
+  module _ (x y : Devices) where
+    -- all that is judged before the route was found good
+    after : (e : Refusal) → IsRouteCause limit held asked e ⊎ (⊤ × IsSendingCause x.output.failures y.output.failures e) → IsRefusedIn (timetable_judges limit held asked) x y e
+    after e cause = inl (inr (none-bad-timetable asked r is, inr (has-passing limit held asked.dir feed h, cause)))
 
-  pub tabled-ends : (old new : Option (List ℕ)) (r : Refusal) → EndsSheets (content_of_parts feed) asked.route q old new r → EndsTimetable limit held asked old new r
-  tabled-ends old new OutputFailed e = begun-of old new e
-  tabled-ends old new OutOfMemory (inl e) = inl e
-  tabled-ends old new OutOfMemory (inr e) = inr (begun-of old new e)
-  tabled-ends old new _ e = e
-
-  pub tabled-cause : (before after : Failures) → after.folders ≡ before.folders → (r : Refusal)
-      → IsSheetsCause (content_of_parts feed) asked.route before.output after.output r → IsTimetableCause limit held asked before after r
-  tabled-cause before after same UnknownRoute e = (tabled_setting, subst (λ (f : Content). is_route f asked.route ≡ false) h.is_feed.1 e)
-  tabled-cause before after same OutputFailed e = e
-  tabled-cause before after same OutOfMemory e = (same, e)
-  tabled-cause before after same _ e = absurd e
-
--- ---- how a run of `gtfs timetable` ends
-
-module _ (limit : ℕ) (held : Option Store) (asked : TimetableTexts) (before after : Failures) (old new : Option (List ℕ)) where
-  pub timetable-ended : (ended : Result Bool Refusal) (status : ℕ) (err told : Output) → status ≡ status_in ended → IfOk ended (IsTabled limit held asked old new)
-      → IfErr ended (IsUntabled limit held asked before after old new) → OnOk ended (Keeps err.told told.told) → IfErr ended (λ r. Sends err told (message r))
-      → IsTimetableRun limit held asked before after old new err told status
-  timetable-ended (Ok failed) status err told gives ok bad keeps line = record {
-    printed = λ _. ok.0;
-    silent = λ _. keeps;
-    refused = λ up. absurd (omega (arith, up, at_zero failed status ok.1 gives));
-  }
-  timetable-ended (Err r) status err told gives ok bad keeps line = record {
-    printed = λ z. absurd (not_well r (sym gives ∙ z));
-    silent = λ z. absurd (not_well r (sym gives ∙ z));
-    refused = λ _. record { refusal = r; untabled = bad; gives = gives; line = line };
-  }
+    pub cause-of : (e : Refusal) → (e ≡ OutOfMemory → FailedNowhere (failures_of x) (failures_of y))
+        → IsSheetsCause (content_of_parts feed) asked.route e ⊎ IsSendingCause x.output.failures y.output.failures e → IsRefusedIn (timetable_judges limit held asked) x y e
+    cause-of UnknownRoute nowhere (inl c) = after UnknownRoute (inl (setting, subst (λ (f : Content). is_route f asked.route ≡ false) h.is_feed.1 c))
+    cause-of OutOfMemory nowhere (inl c) = inr (refl, nowhere refl)
+    cause-of _ nowhere (inl c) = absurd c
+    cause-of e nowhere (inr c) = after e (inr (tt, c))

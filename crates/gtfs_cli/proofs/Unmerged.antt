@@ -1,7 +1,5 @@
 -- Why two folders are not merged, and what is left then.
-use Rattle.std.proofs.Common.{◌≡◌, ◌∙◌, ap, refl, subst, ℕ, ◌<◌, length, ◌⊎◌, inl, inr, true, false, List, [], Option, Result, Ok, Err}
-use Rattle.std.specs.Prelude.{IfErr, OnErr}
-use Rattle.std.specs.Io.KnownBytes.{Appends, Keeps}
+use Rattle.std.proofs.Common.{◌≡◌, ◌∙◌, ap, refl, subst, ℕ, ◌<◌, length, ◌⊎◌, ⊤, inl, inr, true, false, List, [], ◌++◌, Option, None, Result, Ok, Err, sym}
 use Rattle.gtfs_devices.specs.Device.{Rises}
 use Rattle.gtfs_devices.specs.Folder.{Store}
 use Rattle.gtfs_table.specs.Reading.{kept_files}
@@ -15,52 +13,33 @@ use Rattle.gtfs_merge.specs.Merging.{IsMergeOf, KeepsDepartures}
 use Rattle.gtfs_merge.specs.declared.merging.Merged.{Merged}
 use Rattle.gtfs_commands.specs.Words.{MergeTexts}
 use Rattle.gtfs_cli.specs.Boards.{HoldsFeed}
-use Rattle.gtfs_cli.specs.MergeOptions.{HasMergeValues, IsMergeRequest, MergeRequest}
-use Rattle.gtfs_cli.specs.MergeParts.{HoldsMerge, IsFirstBadMerge}
-use Rattle.gtfs_cli.specs.Merges.{file_limit, merge_of, report_for, CanMerge, EndsMerge, HoldsFiles, IsFolderMerge, IsMergeCause, IsMergeFault, IsMergingCause, IsUntouched, IsWritingEnd, IsWritten, MergeSetting, ReadsAgain, StopsAtOne}
+use Rattle.gtfs_cli.specs.Failures.{FailedNowhere}
+use Rattle.gtfs_cli.specs.MergeOptions.{first_bad_merge, IsMergeRequest, MergeRequest}
+use Rattle.gtfs_cli.specs.MergeParts.{HoldsMerge}
+use Rattle.gtfs_cli.specs.Merges.{file_limit, merge_judges, merge_of, merge_plan, report_for, BeginsReport, CanMerge, HoldsFiles, IsFolderMerge, IsFoldersCause, IsMerged, IsMergeFault, IsMergingCause, IsWritingCause, IsWritingEnd, IsWritten, MergeLeaves, MergeSetting, ReadsAgain, StopsAtOne}
 use Rattle.gtfs_cli.specs.NamesReport.{names_report}
+use Rattle.gtfs_cli.specs.Plan.{answer_of, failures_of, Ends, IsRefusedIn}
+use Rattle.gtfs_cli.specs.Reads.{CallsFolders}
 use Rattle.gtfs_cli.specs.Refusals.{IsReadingCause}
-use Rattle.gtfs_cli.specs.Failures.{Failures}
-use Rattle.gtfs_cli.specs.Sending.{IsSendingCause, SendsBeginning}
+use Rattle.gtfs_cli.specs.Seen.{Device, Devices, Output}
+use Rattle.gtfs_cli.specs.Sending.{Begins, IsSendingCause, IsSent}
 use Rattle.gtfs_cli.specs.declared.commands.refusal.Refusal.{Refusal}
-use Rattle.gtfs_cli.specs.declared.commands.refusal.Refusal.TheVariants.{BadValue, NotThere, Unreadable, OverLimit, HasErrors, ZonesDiffer, MergeTooLarge, Unwritable, OutputFailed, OutOfMemory}
-use Rattle.gtfs_cli.proofs.FoldersRead.{has-passing}
+use Rattle.gtfs_cli.specs.declared.commands.refusal.Refusal.TheVariants.{ZonesDiffer, MergeTooLarge, Unwritable, OutputFailed, OutOfMemory}
+use Rattle.gtfs_cli.proofs.FailuresTold.{sending-told}
 use Rattle.gtfs_cli.proofs.NamesTold.{report-told}
+use Rattle.gtfs_cli.proofs.Plans.{asks-answered}
 
--- what went out, and why no more did
-pub both-err : {A : Type 0} (r : Result A Refusal) (P : Type 0) (Q R : Refusal → Type 0) → (P → (e : Refusal) → Q e → R e) → OnErr r P → IfErr r Q → IfErr r R
-both-err (Ok x) P Q R f p q = tt
-both-err (Err e) P Q R f p q = f p e q
+-- no value is bad
+pub none-bad-merge : (asked : MergeTexts) (r : MergeRequest) → IsMergeRequest asked r → first_bad_merge asked ≡ None
+none-bad-merge asked r is = rw (is.near, is.cutoff) refl
 
 module _ (limit : ℕ) (held : Option Store) (asked : MergeTexts) where
-  -- ---- the values of the options
-
-  pub bad-merge-cause : (before after : Failures) (r : Refusal) → IsFirstBadMerge asked r → IsMergeCause limit held asked before after r
-  bad-merge-cause before after (BadValue option) h = h
-  bad-merge-cause before after _ h = absurd h
-
-  pub bad-merge-ends : (old new : Option (List ℕ)) → Keeps old new → (r : Refusal) → IsFirstBadMerge asked r → EndsMerge limit held asked held old new r
-  bad-merge-ends old new keeps (BadValue option) h = (refl, keeps)
-  bad-merge-ends old new keeps _ h = absurd h
-
-  -- ---- the folders that are read
-
-  pub first-unread : (before after : ℕ) (r : Refusal) → IsReadingCause limit held asked.a before after r → IsMergingCause limit held asked before after r
-  first-unread before after (NotThere path) h = inl h
-  first-unread before after (Unreadable path) h = inl h
-  first-unread before after (OverLimit path) h = inl h
-  first-unread before after (HasErrors path) h = inl h
-  first-unread before after OutOfMemory h = h
-  first-unread before after _ h = absurd h
-
-  pub second-unread : (before after : ℕ) (feed : Feed) → HoldsFeed limit held asked.a feed → (r : Refusal) → IsReadingCause limit held asked.b before after r
-      → IsMergingCause limit held asked before after r
-  second-unread before after feed holds (NotThere path) h = inr (h.0, has-passing limit held asked.a feed holds, h.1)
-  second-unread before after feed holds (Unreadable path) h = inr (h.0, has-passing limit held asked.a feed holds, h.1)
-  second-unread before after feed holds (OverLimit path) h = inr (h.0, has-passing limit held asked.a feed holds, h.1)
-  second-unread before after feed holds (HasErrors path) h = inr (h.0, has-passing limit held asked.a feed holds, h.1)
-  second-unread before after feed holds OutOfMemory h = h
-  second-unread before after feed holds _ h = absurd h
+  -- nothing is written and nothing goes out where neither is at fault
+  pub none-merged : (now : Option Store) → now ≡ held → (r : Refusal) → (r ≡ OutputFailed → ⊥) → ((path : _) → r ≡ Unwritable path → ⊥) → MergeLeaves limit held asked now [] r
+  none-merged now same OutputFailed other write = absurd (other refl)
+  none-merged now same (Unwritable path) other write = absurd (write path refl)
+  none-merged now same OutOfMemory other write = inl (same, refl)
+  none-merged now same _ other write = (same, refl)
 
   -- ---- the feeds that are merged
 
@@ -81,15 +60,21 @@ module _ (limit : ℕ) (held : Option Store) (asked : MergeTexts) where
     of_datasets : (P : Content → Content → Type 0) → P (content_of_parts a) (content_of_parts b) → P (content_of first.dataset) (content_of second.dataset)
     of_datasets P h = subst (λ (f : Content). P f (content_of second.dataset)) first.is_feed.1 (subst (λ (f : Content). P (content_of_parts a) f) second.is_feed.1 h)
 
-    pub unmerged : (before after : ℕ) → after ≡ before → (r : Refusal) → IsMergeFault q (content_of_parts a) (content_of_parts b) r → IsMergingCause limit held asked before after r
-    unmerged before after same ZonesDiffer h = (setting, of_datasets (λ f g. zone_texts_differ f g ≡ true) h)
-    unmerged before after same MergeTooLarge h = (
+    pub unmerged : (r : Refusal) → IsMergeFault q (content_of_parts a) (content_of_parts b) r → IsMergingCause limit held asked r ⊎ (r ≡ OutOfMemory)
+    unmerged ZonesDiffer h = inl (setting, of_datasets (λ f g. zone_texts_differ f g ≡ true) h)
+    unmerged MergeTooLarge h = inl (
       setting,
       of_datasets (λ f g. zone_texts_differ f g ≡ false) h.0,
       of_datasets (λ f g. is_too_large file_limit (merge_of q f g) ≡ true) h.1,
     )
-    unmerged before after same OutOfMemory h = same
-    unmerged before after same _ h = absurd h
+    unmerged OutOfMemory h = inr refl
+    unmerged _ h = absurd h
+
+    pub unmerged-by : (before after : ℕ) → after ≡ before → (r : Refusal) → IsMergeFault q (content_of_parts a) (content_of_parts b) r → IsFoldersCause limit held asked before after r
+    unmerged-by before after same r h = elim (unmerged r h) [
+      | inl cause ↦ inr ((first.dataset, first.holds, first.is_feed.0), inr ((second.dataset, second.holds, second.is_feed.0), cause))
+      | inr memory ↦ inl (subst (λ (e : Refusal). IsReadingCause limit held asked.a before after e) (sym memory) same)
+    ]
 
     pub is-merged : (m : Merged) → IsMergeOf q.near q.cutoff (content_of_parts a) (content_of_parts b) file_limit m
         → KeepsDepartures q.near q.cutoff (content_of_parts a) (content_of_parts b) → HoldsMerge limit held asked q.near m
@@ -105,60 +90,86 @@ module _ (limit : ℕ) (held : Option Store) (asked : MergeTexts) where
 
   -- ---- why there is no merge
 
-  pub merging-cause : HasMergeValues asked → (before after : Failures) → after.output ≡ before.output → (r : Refusal) → IsMergingCause limit held asked before.folders after.folders r
-      → IsMergeCause limit held asked before after r
-  merging-cause values before after quiet (NotThere path) h = (values, h)
-  merging-cause values before after quiet (Unreadable path) h = (values, h)
-  merging-cause values before after quiet (OverLimit path) h = (values, h)
-  merging-cause values before after quiet (HasErrors path) h = (values, h)
-  merging-cause values before after quiet ZonesDiffer h = (values, h)
-  merging-cause values before after quiet MergeTooLarge h = (values, h)
-  merging-cause values before after quiet OutOfMemory h = (h, quiet)
-  merging-cause values before after quiet _ h = absurd h
+  pub no-folders-cause : (x y : ℕ) → IsFoldersCause limit held asked x y OutputFailed → ⊥
+  no-folders-cause x y (inl h) = h
+  no-folders-cause x y (inr (pass, inl h)) = h
+  no-folders-cause x y (inr (pass, inr (also, h))) = h
 
-  pub merging-ends : (before after : ℕ) (now : Option Store) (old new : Option (List ℕ)) → IsUntouched held now old new → (r : Refusal)
-      → IsMergingCause limit held asked before after r → EndsMerge limit held asked now old new r
-  merging-ends before after now old new same (Unwritable path) h = absurd h
-  merging-ends before after now old new same OutputFailed h = absurd h
-  merging-ends before after now old new same OutOfMemory h = inl same
-  merging-ends before after now old new same _ h = same
+  pub no-written-folders : (x y : ℕ) (path : _) → IsFoldersCause limit held asked x y (Unwritable path) → ⊥
+  no-written-folders x y path (inl h) = h
+  no-written-folders x y path (inr (pass, inl h)) = h
+  no-written-folders x y path (inr (pass, inr (also, h))) = h
+
+  module _ (x y : Devices) (none : first_bad_merge asked ≡ None) where
+    pub folders-cause : (r : Refusal) → IsFoldersCause limit held asked x.folders.failures y.folders.failures r → IsRefusedIn (merge_judges limit held asked) x y r
+    folders-cause r (inl h) = inl (inr (none, inl h))
+    folders-cause r (inr (pass, inl h)) = inl (inr (none, inr (pass, inl h)))
+    folders-cause r (inr (pass, inr (also, h))) = inl (inr (none, inr (pass, inr (also, inl h))))
+
+    module _ (c : Content) (report : List ℕ) (is : IsFolderMerge limit held asked c report) where
+      -- the folders and their merge were found good
+      after : (r : Refusal) → IsWritingCause asked x.folders.failures y.folders.failures r
+          ⊎ ((0 < length asked.out) × IsSendingCause x.output.failures y.output.failures r) → IsRefusedIn (merge_judges limit held asked) x y r
+      after r h =
+          let s = is.setting in
+          inl (inr (none, inr ((s.first, s.holds_first, s.first_passes), inr ((s.second, s.holds_second, s.second_passes), inr ((c, report, is), h)))))
+
+      pub writing-cause : (mid now : Option Store) → (r : Refusal) → (r ≡ OutOfMemory → FailedNowhere (failures_of x) (failures_of y))
+          → IsWritingEnd mid now x.folders.failures y.folders.failures asked.out c r → IsRefusedIn (merge_judges limit held asked) x y r
+      writing-cause mid now (Unwritable path) nowhere h = after (Unwritable path) (inl (h.0, elim h.1 [ inl unnamed ↦ inl unnamed.0 | inr stopped ↦ inr stopped.1 ]))
+      writing-cause mid now OutOfMemory nowhere h = inr (refl, nowhere refl)
+      writing-cause mid now _ nowhere h = absurd h
+
+      pub sending-cause : 0 < length asked.out → (r : Refusal) → IsSendingCause x.output.failures y.output.failures r → IsRefusedIn (merge_judges limit held asked) x y r
+      sending-cause named r h = after r (inr (named, h))
 
   -- ---- the files that are not written, and the report that is not printed
 
   module _ (c : Content) (report : List ℕ) (is : IsFolderMerge limit held asked c report) where
-    unwritten : (before after : Failures) (mid now : Option Store) (x : ℕ) → x ≡ before.folders → (path : List ℕ) → path ≡ asked.out
-        → ((asked.out ≡ []) × (now ≡ mid)) ⊎ ((0 < length asked.out) × Rises x after.folders × StopsAtOne mid now asked.out c)
-        → (path ≡ asked.out) × CanMerge limit held asked × ((asked.out ≡ []) ⊎ Rises before.folders after.folders)
-    unwritten before after mid now x since path at (inl h) = (at, (c, report, is), inl h.0)
-    unwritten before after mid now x since path at (inr h) = (at, (c, report, is), inr (subst (λ (n : ℕ). Rises n after.folders) since h.1))
+    pub writing-left : (x y : ℕ) (now : Option Store) (r : Refusal) → IsWritingEnd held now x y asked.out c r → MergeLeaves limit held asked now [] r
+    writing-left x y now (Unwritable path) h = record {
+      content = c;
+      report = report;
+      merges = is;
+      ends = elim h.1 [ inl unnamed ↦ inl unnamed | inr stopped ↦ inr (stopped.0, stopped.2) ];
+      nothing = refl;
+    }
+    writing-left x y now OutOfMemory h = inr (inl (record { content = c; report = report; merges = is; ends = h.0; nothing = refl }))
+    writing-left x y now _ h = absurd h
 
-    ended : (x y : ℕ) (now : Option Store) → ((asked.out ≡ []) × (now ≡ held)) ⊎ ((0 < length asked.out) × Rises x y × StopsAtOne held now asked.out c)
-        → ((asked.out ≡ []) × (now ≡ held)) ⊎ ((0 < length asked.out) × StopsAtOne held now asked.out c)
-    ended x y now (inl h) = inl h
-    ended x y now (inr h) = inr (h.0, h.2)
+    module _ (now : Option Store) (named : 0 < length asked.out) (files : HoldsFiles held now asked.out c kept_files) (again : ReadsAgain held now asked.out c) where
+      pub merged : IsMerged limit held asked now report
+      merged = record { content = c; report = report; merges = is; named = named; files = files; again = again; of_report = refl }
 
-    pub writing-cause : (before after : Failures) → after.output ≡ before.output → (mid now : Option Store) (x : ℕ) → x ≡ before.folders → (r : Refusal)
-        → IsWritingEnd mid now x after.folders asked.out c r → IsMergeCause limit held asked before after r
-    writing-cause before after quiet mid now x since (Unwritable path) h = unwritten before after mid now x since path.now h.0 h.1
-    writing-cause before after quiet mid now x since OutOfMemory h = (h.1 ∙ since, quiet)
-    writing-cause before after quiet mid now x since _ h = absurd h
+      pub sending-left : (x y : ℕ) (r : Refusal) → IsSendingCause x y r → (part left : List ℕ) → report ≡ part ++ left → MergeLeaves limit held asked now part r
+      sending-left x y OutputFailed h part left whole = record { text = report; left = left; is_text = merged; whole = whole }
+      sending-left x y OutOfMemory h part left whole = inr (inr (record { text = report; left = left; is_text = merged; whole = whole }))
+      sending-left x y _ h part left whole = absurd h
 
-    pub writing-ends : (x y : ℕ) (now : Option Store) (old new : Option (List ℕ)) → Keeps old new → (r : Refusal) → IsWritingEnd held now x y asked.out c r
-        → EndsMerge limit held asked now old new r
-    writing-ends x y now old new keeps (Unwritable path) h = record { content = c; report = report; merges = is; ends = ended x y now h.1; nothing = keeps }
-    writing-ends x y now old new keeps OutOfMemory h = inr (inl (record { content = c; report = report; merges = is; ends = h.0; nothing = keeps }))
-    writing-ends x y now old new keeps _ h = absurd h
-
-    pub printing-cause : (before after : Failures) → after.folders ≡ before.folders → (r : Refusal) → IsSendingCause before.output after.output r → IsMergeCause limit held asked before after r
-    printing-cause before after same OutputFailed h = ((c, report, is), h)
-    printing-cause before after same OutOfMemory h = (same, h)
-    printing-cause before after same _ h = absurd h
-
-    module _ (now : Option Store) (old new : Option (List ℕ)) (named : 0 < length asked.out) (files : HoldsFiles held now asked.out c kept_files) (again : ReadsAgain held now asked.out c) where
-      pub all-printed : Appends old new report → IsWritten limit held asked now (λ text. Appends old new text)
-      all-printed sent = record { content = c; report = report; merges = is; named = named; files = files; again = again; sent = sent }
-
-      pub printing-ends : (x y : ℕ) → SendsBeginning old new report → (r : Refusal) → IsSendingCause x y r → EndsMerge limit held asked now old new r
-      printing-ends x y begun OutputFailed h = record { content = c; report = report; merges = is; named = named; files = files; again = again; sent = begun }
-      printing-ends x y begun OutOfMemory h = inr (inr (record { content = c; report = report; merges = is; named = named; files = files; again = again; sent = begun }))
-      printing-ends x y begun _ h = absurd h
+      -- how the merge ends whose report was to be sent out
+      pub ends-merged : {A : Type 0} (a b : Device) (x y : Output) → a.held ≡ held → b.held ≡ now → first_bad_merge asked ≡ None → (r : Result A Refusal) → CallsFolders 29 a b r → IsSent report x y r
+          → Ends (merge_plan limit held asked) (record { folders = a; output = x }) (record { folders = b; output = y }) (answer_of r)
+      ends-merged a b x y before after none (Ok v) asks sent = record {
+        done = (report, (refl, subst (λ (n : Option Store). IsMerged limit held asked n report) (sym after) merged), sent.sent);
+        left = tt;
+        refused = tt;
+        told = tt;
+        grows = sent.grows;
+        no_failure = sent.no_failure;
+        asks = asks-answered 29 a b (Ok v) asks;
+      }
+      ends-merged a b x y before after none (Err e) asks sent =
+          let cut = sent.cut_short in
+          record {
+            done = tt;
+            left = (
+              cut.sent,
+              subst (λ (n : Option Store). MergeLeaves limit held asked n cut.sent e) (sym after) (sending-left x.failures y.failures e sent.refused cut.sent cut.left cut.whole),
+              cut.out,
+            );
+            refused = sending-cause (record { folders = a; output = x }) (record { folders = b; output = y }) none c report is named e sent.refused;
+            told = sending-told x.failures y.failures e sent.refused;
+            grows = sent.grows;
+            no_failure = tt;
+            asks = asks-answered 29 a b (Err e) asks;
+          }

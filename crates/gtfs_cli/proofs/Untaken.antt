@@ -1,104 +1,119 @@
 -- How a run ends whose words `clap` does not take.
-use Rattle.std.proofs.Common.{◌≡◌, ◌∙◌, ℕ, refl, sym, inl, Bool, List, Option, Result, Ok, Err, arith}
-use Rattle.std.specs.Prelude.{string_bytes, IfOk, IfErr, IfSome, IsErrAnd, OnOk}
+use Rattle.std.proofs.Common.{◌≡◌, ◌∙◌, ◌≤◌, ℕ, Bool, List, [], Option, Result, Ok, Err, None, Some, inl, inr, refl, sym, ap, subst, take, true, false, append-nil}
+use Rattle.std.specs.Prelude.{string_bytes, IfOk, IsErrAnd}
 use Rattle.std.specs.Io.KnownBytes.{Appends, Keeps}
-use Rattle.clap.specs.Words.{Text}
+use Rattle.clap.specs.Words.{Text, takes}
+use Rattle.gtfs_devices.specs.Device.{Rises}
 use Rattle.gtfs_devices.specs.Folder.{Store}
-use Rattle.gtfs_cli.specs.BoardRun.{IsListed, IsUnlisted}
-use Rattle.gtfs_cli.specs.BoardsRun.{AreListed, AreUnlisted}
-use Rattle.gtfs_cli.specs.TimetableRun.{IsTabled, IsUntabled}
-use Rattle.gtfs_cli.specs.CheckRun.{IsUnchecked}
-use Rattle.gtfs_cli.specs.Checking.{IsReportOf}
-use Rattle.gtfs_commands.specs.Words.{no_memory, AreRefused, BoardTexts, BoardsTexts, IsFaultOf, MergeTexts, TimetableTexts}
-use Rattle.gtfs_commands.specs.declared.fault.WordsFault.{WordsFault}
+use Rattle.gtfs_table.proofs.FolderFacts.{calls-none}
+use Rattle.gtfs_commands.specs.Words.{gtfs_app, AreForHelp, AreForVersion}
 use Rattle.gtfs_commands.specs.declared.fault.WordsFault.TheVariants as faults
-use Rattle.gtfs_cli.specs.MergeRun.{IsMerged, IsUnmerged}
-use Rattle.gtfs_cli.specs.Messages.{message}
-use Rattle.gtfs_cli.specs.Refusals.{status_in, IsCauseInWords}
-use Rattle.gtfs_cli.specs.Failures.{FailedNowhere, Failures}
-use Rattle.gtfs_cli.specs.Sending.{Output, Sends}
-use Rattle.gtfs_cli.specs.UntakenWords.{text_for_output, AnswersRefused}
-use Rattle.gtfs_cli.specs.WordsRun.{IsAnswered, IsUntakenRun, SendsAnswer}
+use Rattle.gtfs_cli.specs.Asked.{plan_of, words_plan, Asked, Asks, Board, Boards, Check, IsAnswer, IsWordsCause, Merge, Timetable, Untaken}
+use Rattle.gtfs_cli.specs.Plan.{Ends}
+use Rattle.gtfs_cli.specs.Refusals.{TellsOutput}
+use Rattle.gtfs_cli.specs.Seen.{Device, Output}
+use Rattle.gtfs_cli.specs.Sending.{or_none, Begins, PrintsText}
 use Rattle.gtfs_cli.specs.declared.commands.refusal.Refusal.{Refusal}
-use Rattle.gtfs_cli.specs.declared.commands.refusal.Refusal.TheVariants.{OutOfMemory}
-use Rattle.gtfs_cli.proofs.Ended.{at_zero, not_well}
-use Rattle.gtfs_cli.proofs.Endings.{told-up}
+use Rattle.gtfs_cli.specs.declared.commands.refusal.Refusal.TheVariants.{OutOfMemory, OutputFailed}
+use Rattle.gtfs_cli.proofs.Parts.{some-sent}
+use Rattle.gtfs_cli.proofs.Plans.{prints-cut, prints-up, prints-whole}
+use Rattle.gtfs_cli.proofs.ReadsThen.{asks-made, asks-none}
 
-module _ (texts : List Text) (before after : Failures) (old new : Option (List ℕ)) (nothing : AreRefused texts → Keeps old new)
-    (untouched : after.folders ≡ before.folders) where
-  pub untaken-ended : (ended : Result Bool Refusal) (status : ℕ) (err told : Output) → status ≡ status_in ended → IfOk ended (IsAnswered texts)
-      → OnOk ended (SendsAnswer texts old new)
-      → IfErr ended (IsCauseInWords texts before.output after.output) → OnOk ended (Keeps err.told told.told) → IfErr ended (λ r. Sends err told (message r))
-      → IsUntakenRun texts before after old new err told status
-  untaken-ended (Ok failed) status err told gives ok sent bad keeps line = record {
-    answered = λ _. ok.1;
-    answer = λ _. sent;
-    silent = λ _. keeps;
-    refused = λ up. absurd (omega (arith, up, at_zero failed status ok.0 gives));
-    nothing = nothing;
-    untouched = untouched;
-  }
-  untaken-ended (Err r) status err told gives ok sent bad keeps line = record {
-    answered = λ z. absurd (not_well r (sym gives ∙ z));
-    answer = λ z. absurd (not_well r (sym gives ∙ z));
-    silent = λ z. absurd (not_well r (sym gives ∙ z));
-    refused = λ _. record { refusal = r; cause = bad; gives = gives; line = line };
-    nothing = nothing;
-    untouched = untouched;
-  }
+pub help-answer : (words : List Text) (text : _) → AreForHelp words → IsAnswer words (string_bytes text)
+help-answer words text asked = record { fault = faults.Help text; asked = inl asked; is_fault = asked; is_text = refl }
 
--- ---- what went out for help and for the version
+pub version-answer : (words : List Text) (text : _) → AreForVersion words → IsAnswer words (string_bytes text)
+version-answer words text asked = record { fault = faults.Version text; asked = inr asked; is_fault = asked; is_text = refl }
 
-pub answer-sent : (texts : List Text) (old new : Option (List ℕ)) (r : Result Bool Refusal) (fault : WordsFault) → IsFaultOf texts fault
-    → OnOk r (IfSome (text_for_output fault) (λ text. Appends old new text)) → AnswersRefused fault r → (fault ≡ no_memory → IsErrAnd r (λ x. x ≡ OutOfMemory))
-    → OnOk r (SendsAnswer texts old new)
-answer-sent texts old new (Err e) fault is whole said memory = tt
-answer-sent texts old new (Ok x) (faults.Help text) is whole said memory =
-    record { fault = faults.Help text; text = string_bytes text; is_fault = is; is_text = refl; out = whole }
-answer-sent texts old new (Ok x) (faults.Version text) is whole said memory =
-    record { fault = faults.Version text; text = string_bytes text; is_fault = is; is_text = refl; out = whole }
-answer-sent texts old new (Ok x) (faults.Refused text) is whole said memory = cc said
-answer-sent texts old new (Ok x) faults.OutOfMemory is whole said memory = absurd (memory refl)
+-- it went out
+pub answer-sent : {A : Type 0} (words : List Text) (a b : Output) (text bytes : List ℕ) {x : A} → IsAnswer words text → bytes ≡ text → Appends a.told b.told bytes → b.failures ≡ a.failures
+    → PrintsText (IsAnswer words) (Begins (IsAnswer words)) (or_none (Begins (IsAnswer words))) (IsWordsCause words) a b (Ok x)
+answer-sent words a b text bytes is same out quiet =
+    prints-whole (IsAnswer words) (Begins (IsAnswer words)) (or_none (Begins (IsAnswer words))) (IsWordsCause words) a b _ (text, is, subst (λ (t : List ℕ). Appends a.told b.told t) same out) quiet
 
--- ---- words that `clap` takes, where memory ran out before they were read
+-- the output failed before the whole of it went out
+pub answer-cut : {A : Type 0} (words : List Text) (a b : Output) (text bytes : List ℕ) → IsAnswer words text → bytes ≡ text → (n : ℕ) → Appends a.told b.told (take n bytes)
+    → Rises a.failures b.failures → a.failures ≤ b.failures → (r : Result A Refusal) → IsErrAnd r (λ y. y ≡ OutputFailed)
+    → PrintsText (IsAnswer words) (Begins (IsAnswer words)) (or_none (Begins (IsAnswer words))) (IsWordsCause words) a b r
+answer-cut {A} words a b text bytes is same n out rises grows r failed =
+    let begun = some-sent a.told b.told text n (subst (λ (t : List ℕ). Appends a.told b.told (take n t)) same out) in
+    prints-up {A = A} (IsAnswer words) (Begins (IsAnswer words)) (or_none (Begins (IsAnswer words))) (IsWordsCause words) a b r OutputFailed failed
+    (prints-cut (IsAnswer words) (Begins (IsAnswer words)) (or_none (Begins (IsAnswer words))) (IsWordsCause words) a b
+    (begun.sent, record { text = text; left = begun.left; is_text = is; whole = begun.whole }, begun.out) rises grows)
 
-module _ (limit : ℕ) (held : Option Store) (before after : Failures) (old new : Option (List ℕ)) (r : Result Bool Refusal)
-    (is : IsErrAnd r (λ x. x ≡ OutOfMemory)) (keeps : Keeps old new) (nowhere : FailedNowhere before after) where
-  none_read : (P : Bool → Type 0) → IfOk r P
-  none_read P = no_value r is
+-- ---- what a command ends with whose words were not read
+
+keeps-appends : (a b : Option (List ℕ)) → Keeps a b → Appends a b []
+keeps-appends None b h = tt
+keeps-appends (Some xs) b h = h ∙ ap (λ (t : List ℕ). Some t) (sym (append-nil xs))
+
+left-memory : (limit : ℕ) (held : Option Store) (words : List Text) (asked : Asked) → (plan_of limit held words asked).Left held [] OutOfMemory
+left-memory limit held words (Check dir) = (refl, inl refl)
+left-memory limit held words (Board texts) = (refl, inl refl)
+left-memory limit held words (Boards texts) = (refl, inl refl)
+left-memory limit held words (Timetable texts) = (refl, inl refl)
+left-memory limit held words (Merge texts) = inl (refl, refl)
+left-memory limit held words Untaken = (refl, inl refl)
+
+module _ (words : List Text) (a : Device) (x y : Output) (r : Result Bool Refusal)
+    (printed : PrintsText (IsAnswer words) (Begins (IsAnswer words)) (or_none (Begins (IsAnswer words))) (IsWordsCause words) x y r) where
+  -- memory ran out before the words were read
+  pub ends-unread : (asked : Asked) → IsErrAnd r (λ e. e ≡ OutOfMemory) → Keeps x.told y.told
+      → Ends (plan_of a.limit a.held words asked) (record { folders = a; output = x }) (record { folders = a; output = y }) r
+  ends-unread asked is keeps = unread r is printed
     where
-      no_value : (s : Result Bool Refusal) → IsErrAnd s (λ x. x ≡ OutOfMemory) → IfOk s P
-      no_value (Ok x) e = absurd e
-      no_value (Err x) e = tt
+      unread : (s : Result Bool Refusal) → IsErrAnd s (λ e. e ≡ OutOfMemory)
+          → PrintsText (IsAnswer words) (Begins (IsAnswer words)) (or_none (Begins (IsAnswer words))) (IsWordsCause words) x y s
+          → Ends (plan_of a.limit a.held words asked) (record { folders = a; output = x }) (record { folders = a; output = y }) s
+      unread (Ok failed) none p = absurd none
+      unread (Err e) is p =
+          let quiet = subst (λ (n : Refusal). TellsOutput x.failures y.failures n) is p.told in
+          record {
+            done = tt;
+            left = (
+              [],
+              subst (λ (n : Refusal). (plan_of a.limit a.held words asked).Left a.held [] n) (sym is) (left-memory a.limit a.held words asked),
+              keeps-appends x.told y.told keeps,
+            );
+            refused = inr (is, (refl, quiet));
+            told = p.told;
+            grows = p.grows;
+            no_failure = tt;
+            asks = asks-none (plan_of a.limit a.held words asked).calls a (Err e) e refl;
+          }
 
-  pub unread-checked : (dir : List ℕ) → IfOk r (IsReportOf limit held dir old new)
-  unread-checked dir = none_read (IsReportOf limit held dir old new)
+  -- `clap` does not take the words
+  pub ends-words : IfOk r (λ failed. failed ≡ false) → Ends (words_plan a.held words) (record { folders = a; output = x }) (record { folders = a; output = y }) r
+  ends-words clean = answered r clean printed
+    where
+      answered : (s : Result Bool Refusal) → IfOk s (λ failed. failed ≡ false)
+          → PrintsText (IsAnswer words) (Begins (IsAnswer words)) (or_none (Begins (IsAnswer words))) (IsWordsCause words) x y s
+          → Ends (words_plan a.held words) (record { folders = a; output = x }) (record { folders = a; output = y }) s
+      answered (Ok failed) clean p = record {
+        done = (p.printed.0, (refl, (clean, p.printed.1)), p.printed.2);
+        left = tt;
+        refused = tt;
+        told = tt;
+        grows = p.grows;
+        no_failure = p.no_failure;
+        asks = asks-made 0 a a (Ok failed) refl (calls-none a.calls);
+      }
+      answered (Err e) clean p = record {
+        done = tt;
+        left = (p.left.0, (refl, p.left.1), p.left.2);
+        refused = inl (elim p.refused [ inl cause ↦ inl cause | inr cause ↦ inr (tt, cause) ]);
+        told = p.told;
+        grows = p.grows;
+        no_failure = tt;
+        asks = asks-none 0 a (Err e) e refl;
+      }
 
-  pub unread-unchecked : (dir : List ℕ) → IfErr r (IsUnchecked limit held dir before after old new)
-  unread-unchecked dir = told-up r OutOfMemory (IsUnchecked limit held dir before after old new) is (record { cause = nowhere; ends = inl keeps; told = nowhere })
-
-  pub unread-listed : (asked : BoardTexts) → IfOk r (IsListed limit held asked old new)
-  unread-listed asked = none_read (IsListed limit held asked old new)
-
-  pub unread-unlisted : (asked : BoardTexts) → IfErr r (IsUnlisted limit held asked before after old new)
-  unread-unlisted asked = told-up r OutOfMemory (IsUnlisted limit held asked before after old new) is (record { cause = nowhere; ends = inl keeps; told = nowhere })
-
-  pub unread-boarded : (asked : BoardsTexts) → IfOk r (AreListed limit held asked old new)
-  unread-boarded asked = none_read (AreListed limit held asked old new)
-
-  pub unread-unboarded : (asked : BoardsTexts) → IfErr r (AreUnlisted limit held asked before after old new)
-  unread-unboarded asked =
-      told-up r OutOfMemory (AreUnlisted limit held asked before after old new) is (record { cause = inl nowhere; ends = inl keeps; told = nowhere })
-
-  pub unread-tabled : (asked : TimetableTexts) → IfOk r (IsTabled limit held asked old new)
-  unread-tabled asked = none_read (IsTabled limit held asked old new)
-
-  pub unread-untabled : (asked : TimetableTexts) → IfErr r (IsUntabled limit held asked before after old new)
-  unread-untabled asked = told-up r OutOfMemory (IsUntabled limit held asked before after old new) is (record { cause = nowhere; ends = inl keeps; told = nowhere })
-
-  pub unread-merged : (asked : MergeTexts) → IfOk r (IsMerged limit held asked held old new)
-  unread-merged asked = none_read (IsMerged limit held asked held old new)
-
-  pub unread-unmerged : (asked : MergeTexts) → IfErr r (IsUnmerged limit held asked before after held old new)
-  unread-unmerged asked =
-      told-up r OutOfMemory (IsUnmerged limit held asked before after held old new) is (record { cause = nowhere; ends = inl (refl, keeps); told = nowhere })
+  -- whatever they ask for
+  pub ends-fault : (taken : takes gtfs_app words ≡ true → IsErrAnd r (λ e. e ≡ OutOfMemory) × Keeps x.told y.told) → IfOk r (λ failed. failed ≡ false) → (asked : Asked) → Asks words asked
+      → Ends (plan_of a.limit a.held words asked) (record { folders = a; output = x }) (record { folders = a; output = y }) r
+  ends-fault taken clean Untaken asks = ends-words clean
+  ends-fault taken clean (Check dir) asks = let t = taken asks.taken in ends-unread (Check dir) t.0 t.1
+  ends-fault taken clean (Board texts) asks = let t = taken asks.taken in ends-unread (Board texts) t.0 t.1
+  ends-fault taken clean (Boards texts) asks = let t = taken asks.taken in ends-unread (Boards texts) t.0 t.1
+  ends-fault taken clean (Timetable texts) asks = let t = taken asks.taken in ends-unread (Timetable texts) t.0 t.1
+  ends-fault taken clean (Merge texts) asks = let t = taken asks.taken in ends-unread (Merge texts) t.0 t.1

@@ -1,5 +1,5 @@
--- How a board ends by what the folders hold under the path of its zone file.
-use Rattle.std.proofs.Common.{◌≡◌, ◌∙◌, ap, sym, subst, ℕ, ◌<◌, ◌⊎◌, inl, inr, length, List, [], Some, None, codes, arith}
+-- What the folders hold under the path of a file is judged in one way.
+use Rattle.std.proofs.Common.{◌≡◌, ◌≢◌, ◌∙◌, ap, sym, subst, refl, ℕ, ◌<◌, ◌⊎◌, inl, inr, length, List, [], Some, None, codes, arith}
 use Rattle.std.specs.Prelude.{option_map}
 use Rattle.std.specs.FinMap as map
 use Rattle.gtfs_days.specs.Zone.{transitions_of, IsUnreadable, IsZoneOf, SaysSame}
@@ -7,12 +7,18 @@ use Rattle.gtfs_days.specs.declared.zone.Zone.{Zone}
 use Rattle.gtfs_days.proofs.Footers.{no_bad_rule}
 use Rattle.gtfs_days.proofs.SameZones.{zones_one}
 use Rattle.jiff_tz.specs.Tzif as Table
+use Rattle.gtfs_devices.specs.Device.{Rises}
 use Rattle.gtfs_devices.specs.Folder.{file_in, Files, Finds, HasFileOver, LacksFolder, Store}
-use Rattle.gtfs_cli.specs.Messages.{line_of}
-use Rattle.gtfs_cli.specs.Outcomes.{Outcome}
+use Rattle.gtfs_cli.specs.FileRead.{HoldsSomeZone, IsPathCause, IsZoneCause}
 use Rattle.gtfs_cli.specs.HeldFiles.{FitsZone, HasBytes, HoldsBytes, HoldsFile, HoldsNoZone, HoldsZone, LacksFile, NamesNoFile}
-use Rattle.gtfs_cli.proofs.Apart.{either, one_as, Apart, EndsAs, One}
-use Rattle.gtfs_cli.proofs.Outcomes.{not_there, over_limit, refused}
+use Rattle.gtfs_cli.specs.Judging.{zone}
+use Rattle.gtfs_cli.specs.ManyBoards.{request_file}
+use Rattle.gtfs_cli.specs.Messages.{line_of, message}
+use Rattle.gtfs_cli.specs.Outcomes.{IsPlainRefusal}
+use Rattle.gtfs_cli.specs.Refusals.{status_of}
+use Rattle.gtfs_cli.specs.declared.commands.refusal.Refusal.{Refusal}
+use Rattle.gtfs_cli.specs.declared.commands.refusal.Refusal.TheVariants.{NotThere, Unreadable, OverLimit, NoZone, OutputFailed, OutOfMemory}
+use Rattle.gtfs_cli.proofs.OneRefusal.{alike, line-at, Alike, Excludes, One, Quiet, Says}
 use Rattle.gtfs_cli.proofs.PathCuts.{together}
 
 module _ (limit : ℕ) (store : Store) (path : List ℕ) where
@@ -79,15 +85,15 @@ module _ (limit : ℕ) (store : Store) (path : List ℕ) where
   -- ---- zones
 
   -- bytes of a zone are a zone file
-  readable : (bytes : List ℕ) (zone : Zone) → IsZoneOf bytes zone → FitsZone bytes → IsUnreadable bytes → ⊥
-  readable bytes zone is fits (inl long) = fits long
-  readable bytes zone is fits (inr (inl fault)) = cc (rw is.read at fault)
-  readable bytes zone is fits (inr (inr bad)) = no_bad_rule (transitions_of zone) is.agrees (subst Table.HasBadRule is.read bad)
+  readable : (bytes : List ℕ) (z : Zone) → IsZoneOf bytes z → FitsZone bytes → IsUnreadable bytes → ⊥
+  readable bytes z is fits (inl long) = fits long
+  readable bytes z is fits (inr (inl fault)) = cc (rw is.read at fault)
+  readable bytes z is fits (inr (inr bad)) = no_bad_rule (transitions_of z) is.agrees (subst Table.HasBadRule is.read bad)
 
-  unread : (zone : Zone) → HoldsNoZone limit (Some store) path → HoldsZone limit (Some store) path zone → ⊥
-  unread zone a b =
+  unread : (z : Zone) → HoldsNoZone limit (Some store) path → HoldsZone limit (Some store) path z → ⊥
+  unread z a b =
       let same = same_bytes a.bytes b.bytes a.holds b.holds in
-      readable b.bytes zone b.is_zone b.fits (subst IsUnreadable same a.unreadable)
+      readable b.bytes z b.is_zone b.fits (subst IsUnreadable same a.unreadable)
 
   -- the zones of the file say the same
   pub same_zones : (y z : Zone) → HoldsZone limit (Some store) path y → HoldsZone limit (Some store) path z → SaysSame y z
@@ -95,70 +101,83 @@ module _ (limit : ℕ) (store : Store) (path : List ℕ) where
       let same = same_bytes b.bytes a.bytes b.holds a.holds in
       zones_one a.bytes y z a.is_zone (subst (λ (bytes : List ℕ). IsZoneOf bytes z) same b.is_zone)
 
-  -- ---- ends
+  -- ---- a file
 
-  abbrev pub not_readable : Outcome
-  not_readable = refused (line_of path (codes " cannot be read")) 3
+  abbrev Lacking : Refusal → Type 0
+  Lacking r = LacksFile (Some store) path × Says r (line_of path (codes " is not there")) 3
 
-  abbrev pub no_zone : Outcome
-  no_zone = refused (line_of path (codes " is no zone file")) 3
+  abbrev Unnamed : Refusal → Type 0
+  Unnamed r = NamesNoFile path × Says r (line_of path (codes " cannot be read")) 3
 
-  abbrev pub Lacking : Outcome → Type 0
-  Lacking o = EndsAs Outcome (LacksFile (Some store) path) (not_there limit store path) o
+  abbrev Over : Refusal → Type 0
+  Over r = HoldsFile limit (Some store) path × Says r (line_of path (codes " holds a file over the limit")) 3
 
-  abbrev pub Unnamed : Outcome → Type 0
-  Unnamed o = EndsAs Outcome (NamesNoFile path) not_readable o
+  abbrev FileReason : Refusal → Type 0
+  FileReason r = Lacking r ⊎ (Unnamed r ⊎ Over r)
 
-  abbrev pub Over : Outcome → Type 0
-  Over o = EndsAs Outcome (HoldsFile limit (Some store) path) (over_limit limit store path) o
+  file-reason : (before after : ℕ) → (Rises before after → ⊥) → (r : Refusal) → r ≢ OutOfMemory → IsPathCause limit (Some store) path before after r → FileReason r
+  file-reason before after still (NotThere named) enough h = inl (h.1, (line-at named.now path (codes " is not there") h.0, refl))
+  file-reason before after still (Unreadable named) enough (at, inl rises) = absurd (still rises)
+  file-reason before after still (Unreadable named) enough (at, inr none) = inr (inl (none, (line-at named.now path (codes " cannot be read") at, refl)))
+  file-reason before after still (OverLimit named) enough h = inr (inr (h.1, (line-at named.now path (codes " holds a file over the limit") h.0, refl)))
+  file-reason before after still OutOfMemory enough h = absurd (enough refl)
+  file-reason before after still _ enough h = absurd h
 
-  abbrev NoZone : Outcome → Type 0
-  NoZone o = EndsAs Outcome (HoldsNoZone limit (Some store) path) no_zone o
+  pub no-file-reason : (bytes : List ℕ) → HoldsBytes limit (Some store) path bytes → (r : Refusal) → FileReason r → ⊥
+  no-file-reason bytes holds r (inl a) = lacks_bytes bytes a.0 holds
+  no-file-reason bytes holds r (inr (inl a)) = nameless_bytes bytes a.0 holds
+  no-file-reason bytes holds r (inr (inr a)) = over_bytes bytes a.0 holds
 
-  abbrev Zoned : (Outcome → Type 0) → Outcome → Type 0
-  Zoned Then o = ((zone : Zone) × HoldsZone limit (Some store) path zone) × Then o
+  one-reason : (r s : Refusal) → FileReason r → FileReason s → Alike r s
+  one-reason r s (inl a) (inl b) = alike r s (line_of path (codes " is not there")) 3 a.1 b.1
+  one-reason r s (inl a) (inr (inl b)) = absurd (lacks_nameless a.0 b.0)
+  one-reason r s (inl a) (inr (inr b)) = absurd (lacks_over a.0 b.0)
+  one-reason r s (inr (inl a)) (inl b) = absurd (lacks_nameless b.0 a.0)
+  one-reason r s (inr (inl a)) (inr (inl b)) = alike r s (line_of path (codes " cannot be read")) 3 a.1 b.1
+  one-reason r s (inr (inl a)) (inr (inr b)) = absurd (nameless_over a.0 b.0)
+  one-reason r s (inr (inr a)) (inl b) = absurd (lacks_over b.0 a.0)
+  one-reason r s (inr (inr a)) (inr (inl b)) = absurd (nameless_over b.0 a.0)
+  one-reason r s (inr (inr a)) (inr (inr b)) = alike r s (line_of path (codes " holds a file over the limit")) 3 a.1 b.1
 
-  -- there is no file, or the path names none, or it is over the limit, or no zone file, or there is a zone, and then
-  abbrev pub ZoneEnd : (Outcome → Type 0) → Outcome → Type 0
-  ZoneEnd Then o = Lacking o ⊎ (Unnamed o ⊎ (Over o ⊎ (NoZone o ⊎ Zoned Then o)))
+  reason-of-file : (r : Refusal) → IsPlainRefusal (request_file limit (Some store) path) r → FileReason r
+  reason-of-file r h = file-reason h.before.folders h.after.folders h.nowhere.folders r h.enough h.cause
 
-  module _ (Then : Outcome → Type 0) (then : One Outcome Then) where
-    abbrev Read : Outcome → Type 0
-    Read o = NoZone o ⊎ Zoned Then o
+  pub one-file : One (request_file limit (Some store) path)
+  one-file r s g h = one-reason r s (reason-of-file r g) (reason-of-file s h)
 
-    abbrev Found : Outcome → Type 0
-    Found o = Over o ⊎ Read o
+  pub excludes-file : Excludes ((bytes : List ℕ) × HoldsBytes limit (Some store) path bytes) (request_file limit (Some store) path)
+  excludes-file holds r h = no-file-reason holds.0 holds.1 r (reason-of-file r h)
 
-    abbrev Named : Outcome → Type 0
-    Named o = Unnamed o ⊎ Found o
+  pub quiet-file : Quiet (request_file limit (Some store) path)
+  quiet-file h = h.cause
 
-    lacking_read : Apart Outcome Lacking Read
-    lacking_read x y a (inl b) = lacks_bytes b.0.bytes a.0 b.0.holds
-    lacking_read x y a (inr b) = lacks_bytes b.0.1.bytes a.0 b.0.1.holds
+  -- ---- a zone file
 
-    lacking_named : Apart Outcome Lacking Named
-    lacking_named x y a (inl b) = lacks_nameless a.0 b.0
-    lacking_named x y a (inr (inl b)) = lacks_over a.0 b.0
-    lacking_named x y a (inr (inr b)) = lacking_read x y a b
+  abbrev Unzoned : Refusal → Type 0
+  Unzoned r = HoldsNoZone limit (Some store) path × Says r (line_of path (codes " is no zone file")) 3
 
-    unnamed_found : Apart Outcome Unnamed Found
-    unnamed_found x y a (inl b) = nameless_over a.0 b.0
-    unnamed_found x y a (inr (inl b)) = nameless_bytes b.0.bytes a.0 b.0.holds
-    unnamed_found x y a (inr (inr b)) = nameless_bytes b.0.1.bytes a.0 b.0.1.holds
+  zone-reason : (before after : ℕ) → (Rises before after → ⊥) → (r : Refusal) → r ≢ OutOfMemory → IsZoneCause limit (Some store) path before after r → Unzoned r ⊎ FileReason r
+  zone-reason before after still (NoZone named) enough h = inl (h.1, (line-at named.now path (codes " is no zone file") h.0, refl))
+  zone-reason before after still (NotThere named) enough h = inr (file-reason before after still (NotThere named) enough h)
+  zone-reason before after still (Unreadable named) enough h = inr (file-reason before after still (Unreadable named) enough h)
+  zone-reason before after still (OverLimit named) enough h = inr (file-reason before after still (OverLimit named) enough h)
+  zone-reason before after still OutOfMemory enough h = absurd (enough refl)
+  zone-reason before after still _ enough h = absurd h
 
-    over_read : Apart Outcome Over Read
-    over_read x y a (inl b) = over_bytes b.0.bytes a.0 b.0.holds
-    over_read x y a (inr b) = over_bytes b.0.1.bytes a.0 b.0.1.holds
+  reason-of-zone : (r : Refusal) → IsPlainRefusal (zone limit (Some store) path) r → Unzoned r ⊎ FileReason r
+  reason-of-zone r h = zone-reason h.before.folders h.after.folders h.nowhere.folders r h.enough h.cause
 
-    unzoned : Apart Outcome NoZone (Zoned Then)
-    unzoned x y a b = unread b.0.0 a.0 b.0.1
+  pub one-zone : One (zone limit (Some store) path)
+  one-zone r s g h = by (reason-of-zone r g) (reason-of-zone s h)
+    where
+      by : Unzoned r ⊎ FileReason r → Unzoned s ⊎ FileReason s → Alike r s
+      by (inl a) (inl b) = alike r s (line_of path (codes " is no zone file")) 3 a.1 b.1
+      by (inl a) (inr b) = absurd (no-file-reason a.0.bytes a.0.holds s b)
+      by (inr a) (inl b) = absurd (no-file-reason b.0.bytes b.0.holds r a)
+      by (inr a) (inr b) = one-reason r s a b
 
-    one_zoned : One Outcome (Zoned Then)
-    one_zoned x y a b = then x y a.1 b.1
+  pub excludes-zone : Excludes (HoldsSomeZone limit (Some store) path) (zone limit (Some store) path)
+  excludes-zone holds r h = elim (reason-of-zone r h) [ inl a ↦ unread holds.0 a.0 holds.1 | inr a ↦ no-file-reason holds.1.bytes holds.1.holds r a ]
 
-    pub one_zone : One Outcome (ZoneEnd Then)
-    one_zone =
-        let read = either Outcome NoZone (Zoned Then) (one_as Outcome (HoldsNoZone limit (Some store) path) no_zone) one_zoned unzoned in
-        let found = either Outcome Over Read (one_as Outcome (HoldsFile limit (Some store) path) (over_limit limit store path)) read over_read in
-        let named = either Outcome Unnamed Found (one_as Outcome (NamesNoFile path) not_readable) found unnamed_found in
-        either Outcome Lacking Named (one_as Outcome (LacksFile (Some store) path) (not_there limit store path)) named lacking_named
+  pub quiet-zone : Quiet (zone limit (Some store) path)
+  quiet-zone h = h.cause

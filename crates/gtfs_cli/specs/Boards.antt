@@ -1,9 +1,7 @@
 -- What `gtfs board` prints: a page of the board that the words ask for.
-use Rattle.std.specs.Prelude.{◌≡◌, ◌⊎◌, ⊤, ℕ, true, false, All, List, Option, option_map}
-use Rattle.std.specs.Io.KnownBytes.{Keeps}
+use Rattle.std.specs.Prelude.{◌≡◌, ⊤, ℕ, true, false, All, List, [], Option, Some, option_map}
 use Rattle.gtfs_days.specs.Zone.{zone_origin}
 use Rattle.gtfs_days.specs.declared.zone.Zone.{Zone}
-use Rattle.gtfs_devices.specs.Device.{Rises}
 use Rattle.gtfs_devices.specs.Folder.{Store}
 use Rattle.gtfs_table.specs.Tables.{Dataset}
 use Rattle.gtfs_columns.specs.Problems.{Passes}
@@ -20,11 +18,13 @@ use Rattle.gtfs_board.specs.Page.{IsCutShort, IsPage, IsStopped}
 use Rattle.gtfs_board.specs.Shown.{IsShown}
 use Rattle.gtfs_commands.specs.Words.{BoardTexts}
 use Rattle.gtfs_cli.specs.Refusals.{IsSound}
-use Rattle.gtfs_cli.specs.OptionValues.{instant_at, IsRequest, Request}
+use Rattle.gtfs_cli.specs.OptionValues.{instant_at, judged_board, IsRequest, Request}
 use Rattle.gtfs_cli.specs.HeldFiles.{HoldsTables}
-use Rattle.gtfs_cli.specs.BoardSetting.{LiesBefore, Setting}
+use Rattle.gtfs_cli.specs.BoardSetting.{EndsBeforeItBegins, LacksStop, LiesBefore, Setting}
+use Rattle.gtfs_cli.specs.Judging.{feed, followed_by, sending, values, zone, Judged}
+use Rattle.gtfs_cli.specs.Plan.{passed, prints, Plan}
 use Rattle.gtfs_cli.specs.declared.commands.refusal.Refusal.{Refusal}
-use Rattle.gtfs_cli.specs.declared.commands.refusal.Refusal.TheVariants.{HasErrors, UnknownStop, UntilBeforeFrom, OutputFailed, OutOfMemory}
+use Rattle.gtfs_cli.specs.declared.commands.refusal.Refusal.TheVariants.{HasErrors, UnknownStop, UntilBeforeFrom, OutOfMemory}
 use Rattle.gtfs_cli.specs.declared.commands.values.Values.{Values}
 
 -- ---- of a feed, a zone and the values of the options
@@ -50,20 +50,9 @@ pub record OfBoard (Out : GoesOut) (f : Content) (z : Zone) (stop : List ℕ) (r
   pub lists : ListsBoard f z stop r departures
   pub out : Out z r.limit departures left before after lines
 
--- what went out where a refusal came: lines of the board and a beginning of the next where the output failed, whole lines or nothing
--- where memory ran out, and else nothing
-abbrev pub EndsLines : Content → Zone → List ℕ → Request → Option (List ℕ) → Option (List ℕ) → Refusal → Type 0
-EndsLines f z stop r before after OutputFailed = OfBoard IsCutShort f z stop r before after
-EndsLines f z stop r before after OutOfMemory = Keeps before after ⊎ OfBoard IsStopped f z stop r before after
-EndsLines f z stop r before after _ = Keeps before after
-
--- when a refusal comes; the counts are those of the output's failures, before and after
-abbrev pub IsLinesCause : Content → Zone → List ℕ → Request → ℕ → ℕ → Refusal → Type 0
-IsLinesCause f z stop r before after UnknownStop = is_stop f stop ≡ false
-IsLinesCause f z stop r before after UntilBeforeFrom = (is_stop f stop ≡ true) × LiesBefore z r
-IsLinesCause f z stop r before after OutputFailed = Rises before after
-IsLinesCause f z stop r before after OutOfMemory = after ≡ before
-IsLinesCause f z stop r before after _ = ⊥
+-- what goes out so of that board is this text, with nothing before it
+abbrev pub IsTextOf : GoesOut → Content → Zone → List ℕ → Request → List ℕ → Type 0
+IsTextOf Out f z stop r text = OfBoard Out f z stop r (Some []) (Some text)
 
 -- why no board is opened
 abbrev pub IsOpeningCause : Content → Zone → List ℕ → Request → Refusal → Type 0
@@ -74,19 +63,28 @@ IsOpeningCause f z stop r _ = ⊥
 
 -- ---- of a folder and a zone file
 
--- lines of the board that the words ask for went out so
-abbrev pub Lists : GoesOut → ℕ → Option Store → BoardTexts → Option (List ℕ) → Option (List ℕ) → Type 0
-Lists Out limit held asked before after = (s : Setting limit held asked) × OfBoard Out (content_of s.dataset) s.zone asked.stop s.request before after
+-- the text of the board that the words ask for
+abbrev pub IsBoardText : GoesOut → ℕ → Option Store → BoardTexts → List ℕ → Type 0
+IsBoardText Out limit held asked text = (s : Setting limit held asked) × IsTextOf Out (content_of s.dataset) s.zone asked.stop s.request text
 
--- a page went out: the lines of the first departures of the board, all or as many as the limit
-abbrev pub PrintsBoard : ℕ → Option Store → BoardTexts → Option (List ℕ) → Option (List ℕ) → Type 0
-PrintsBoard limit held asked before after = Lists IsPage limit held asked before after
+-- when a stop or a span is refused
+abbrev pub IsStopCause : ℕ → Option Store → BoardTexts → Refusal → Type 0
+IsStopCause limit held asked UnknownStop = LacksStop limit held asked
+IsStopCause limit held asked UntilBeforeFrom = EndsBeforeItBegins limit held asked
+IsStopCause limit held asked _ = ⊥
 
--- what went out where a refusal came
-abbrev pub EndsBoard : ℕ → Option Store → BoardTexts → Option (List ℕ) → Option (List ℕ) → Refusal → Type 0
-EndsBoard limit held asked before after OutputFailed = Lists IsCutShort limit held asked before after
-EndsBoard limit held asked before after OutOfMemory = Keeps before after ⊎ Lists IsStopped limit held asked before after
-EndsBoard limit held asked before after _ = Keeps before after
+abbrev pub stop_and_span : ℕ → Option Store → BoardTexts → Judged
+stop_and_span limit held asked = record { Refuses = λ before after. IsStopCause limit held asked; Holds = ⊤ }
+
+-- the values, the folder, the zone file, the stop and the span are judged in this order
+abbrev pub board_judges : ℕ → Option Store → BoardTexts → Judged
+board_judges limit held asked = followed_by (values (judged_board asked)) (followed_by (feed limit held asked.dir)
+    (followed_by (zone limit held asked.zone) (followed_by (stop_and_span limit held asked) sending)))
+
+-- a page is printed: the lines of the first departures of the board, all or as many as the limit
+abbrev pub board_plan : ℕ → Option Store → BoardTexts → Plan
+board_plan limit held asked = prints held (board_judges limit held asked) (passed (IsBoardText IsPage limit held asked))
+    (IsBoardText IsCutShort limit held asked) (IsBoardText IsStopped limit held asked) 11
 
 -- ---- what the parts of the work give
 

@@ -1,6 +1,5 @@
 -- What `gtfs boards` prints: for each request of a file, in their order, its heading and then the lines of its board.
-use Rattle.std.specs.Prelude.{◌≡◌, ◌⊎◌, ℕ, List, [], ◌∷◌, ◌++◌, Option, Some, Result, Err, IsOkAnd, IsUtf8}
-use Rattle.std.specs.Io.KnownBytes.{Appends, Keeps}
+use Rattle.std.specs.Prelude.{◌≡◌, ◌⊎◌, ⊤, ℕ, List, [], ◌∷◌, ◌++◌, Option, Result, Err, IsOkAnd, IsUtf8}
 use Rattle.gtfs_days.specs.Zone.{zone_origin}
 use Rattle.gtfs_days.specs.declared.zone.Zone.{Zone}
 use Rattle.gtfs_devices.specs.Folder.{Store}
@@ -10,43 +9,42 @@ use Rattle.gtfs_rows.specs.Content.{Content}
 use Rattle.gtfs_rows.specs.Reading.{content_of}
 use Rattle.gtfs_board.specs.Page.{IsCutShort, IsPage, IsStopped}
 use Rattle.gtfs_commands.specs.Words.{BoardsTexts}
-use Rattle.gtfs_cli.specs.Boards.{GoesOut, OfBoard}
-use Rattle.gtfs_cli.specs.Sending.{IsSendingCause}
-use Rattle.gtfs_cli.specs.FileRead.{HoldsNoUtf8, HoldsSomeZone, HoldsUtf8, IsPathCause, IsZoneCause}
+use Rattle.gtfs_cli.specs.Boards.{GoesOut, IsTextOf}
+use Rattle.gtfs_cli.specs.FileRead.{HoldsNoUtf8, HoldsUtf8, IsPathCause}
 use Rattle.gtfs_cli.specs.Options.{times_of}
-use Rattle.gtfs_cli.specs.Refusals.{IsReadingCause}
 use Rattle.gtfs_cli.specs.Requests.{request_heading, requests_of, StopRequest}
-use Rattle.gtfs_cli.specs.HeldFiles.{HoldsPassing, HoldsTables, HoldsZone}
-use Rattle.gtfs_cli.specs.Failures.{Failures}
+use Rattle.gtfs_cli.specs.HeldFiles.{HoldsBytes, HoldsTables, HoldsZone}
+use Rattle.gtfs_cli.specs.Judging.{feed, followed_by, sending, zone, Judged}
+use Rattle.gtfs_cli.specs.Plan.{passed, prints, Plan}
 use Rattle.gtfs_cli.specs.declared.commands.refusal.Refusal.{Refusal}
-use Rattle.gtfs_cli.specs.declared.commands.refusal.Refusal.TheVariants.{Unreadable, Line, OutputFailed, OutOfMemory}
+use Rattle.gtfs_cli.specs.declared.commands.refusal.Refusal.TheVariants.{Unreadable, Line}
 use Rattle.gtfs_cli.specs.declared.commands.request_fault.RequestFault.{RequestFault}
 
 -- ---- the text
 
--- what goes out so of the board of a request is this text, with nothing before it
-abbrev pub IsTextOf : GoesOut → Content → Zone → StopRequest → List ℕ → Type 0
-IsTextOf Out f z q text = OfBoard Out f z q.texts.stop q.request (Some []) (Some text)
+-- what goes out so of the board of a request is this text
+abbrev pub IsRequestText : GoesOut → Content → Zone → StopRequest → List ℕ → Type 0
+IsRequestText Out f z q text = IsTextOf Out f z q.texts.stop q.request text
 
 -- the text has the heading of each request, and below it the lines that `gtfs board` prints for it
 abbrev pub AreBoards : Content → Zone → List StopRequest → List ℕ → Type 0
 AreBoards f z [] text = text ≡ []
 AreBoards f z (q ∷ qs) text =
-    (page : List ℕ) × (more : List ℕ) × IsTextOf IsPage f z q page × AreBoards f z qs more × (text ≡ request_heading q.texts ++ page ++ more)
+    (page : List ℕ) × (more : List ℕ) × IsRequestText IsPage f z q page × AreBoards f z qs more × (text ≡ request_heading q.texts ++ page ++ more)
 
 -- ---- what of it went out
 
 -- a beginning of the heading of a request, or the heading and then lines of its board and a beginning of the next
 abbrev pub BeginsBoard : Content → Zone → StopRequest → List ℕ → Type 0
 BeginsBoard f z q part = ((left : List ℕ) × (request_heading q.texts ≡ part ++ left))
-    ⊎ ((lines : List ℕ) × (part ≡ request_heading q.texts ++ lines) × IsTextOf IsCutShort f z q lines)
+    ⊎ ((lines : List ℕ) × (part ≡ request_heading q.texts ++ lines) × IsRequestText IsCutShort f z q lines)
 
 -- nothing, or the heading and then whole lines
 abbrev pub BeginsWhole : Content → Zone → StopRequest → List ℕ → Type 0
-BeginsWhole f z q part = (part ≡ []) ⊎ ((lines : List ℕ) × (part ≡ request_heading q.texts ++ lines) × IsTextOf IsStopped f z q lines)
+BeginsWhole f z q part = (part ≡ []) ⊎ ((lines : List ℕ) × (part ≡ request_heading q.texts ++ lines) × IsRequestText IsStopped f z q lines)
 
--- the boards of some first requests went out whole, and of the next one this much
-pub record StopsIn (Part : Content → Zone → StopRequest → List ℕ → Type 0) (f : Content) (z : Zone) (qs : List StopRequest) (before after : Option (List ℕ)) : Type 0 where
+-- the boards of some first requests, whole, and of the next one this much
+pub record StopsIn (Part : Content → Zone → StopRequest → List ℕ → Type 0) (f : Content) (z : Zone) (qs : List StopRequest) (sent : List ℕ) : Type 0 where
   pub done : List StopRequest
   pub next : StopRequest
   pub others : List StopRequest
@@ -55,7 +53,7 @@ pub record StopsIn (Part : Content → Zone → StopRequest → List ℕ → Typ
   pub split : qs ≡ done ++ next ∷ others
   pub are_boards : AreBoards f z done text
   pub is_part : Part f z next part
-  pub out : Appends before after (text ++ part)
+  pub whole : sent ≡ text ++ part
 
 -- ---- of a folder, a zone file and a file of requests
 
@@ -78,79 +76,65 @@ requests_at limit held asked s = requests_of (content_of s.dataset) (zone_origin
 abbrev pub AreAllBoards : Content → Zone → Result (List StopRequest) RequestFault → List ℕ → Type 0
 AreAllBoards f z asked text = IsOkAnd asked (λ qs. AreBoards f z qs text)
 
--- it went out
-abbrev pub PrintsRequests : Content → Zone → Result (List StopRequest) RequestFault → Option (List ℕ) → Option (List ℕ) → Type 0
-PrintsRequests f z asked before after = (text : List ℕ) × AreAllBoards f z asked text × Appends before after text
-
--- what went out where a refusal came: a beginning of that text where the output failed, whole lines or nothing where memory ran out, and
--- else nothing
-abbrev pub EndsRequests : Content → Zone → Result (List StopRequest) RequestFault → Option (List ℕ) → Option (List ℕ) → Refusal → Type 0
-EndsRequests f z asked before after OutputFailed = IsOkAnd asked (λ qs. StopsIn BeginsBoard f z qs before after)
-EndsRequests f z asked before after OutOfMemory = Keeps before after ⊎ IsOkAnd asked (λ qs. StopsIn BeginsWhole f z qs before after)
-EndsRequests f z asked before after _ = Keeps before after
+-- no line is refused, and this is of the text of all boards
+abbrev pub StopsInAll : (Content → Zone → StopRequest → List ℕ → Type 0) → Content → Zone → Result (List StopRequest) RequestFault → List ℕ → Type 0
+StopsInAll Part f z asked sent = IsOkAnd asked (λ qs. StopsIn Part f z qs sent)
 
 -- the text of all boards that the words ask for
 abbrev pub IsBoardsText : ℕ → Option Store → BoardsTexts → List ℕ → Type 0
 IsBoardsText limit held asked text =
     (s : BoardsSetting limit held asked) × AreAllBoards (content_of s.dataset) s.zone (requests_at limit held asked s) text
 
--- it went out
-abbrev pub PrintsBoards : ℕ → Option Store → BoardsTexts → Option (List ℕ) → Option (List ℕ) → Type 0
-PrintsBoards limit held asked before after = (text : List ℕ) × IsBoardsText limit held asked text × Appends before after text
-
--- no line of the file is refused, and its boards went out so
-abbrev pub StopsInBoards : (Content → Zone → StopRequest → List ℕ → Type 0) → ℕ → Option Store → BoardsTexts → Option (List ℕ) → Option (List ℕ) → Type 0
-StopsInBoards Part limit held asked before after = (s : BoardsSetting limit held asked)
-    × IsOkAnd (requests_at limit held asked s) (λ qs. StopsIn Part (content_of s.dataset) s.zone qs before after)
-
--- what of it went out where a refusal came
-abbrev pub EndsBoards : ℕ → Option Store → BoardsTexts → Option (List ℕ) → Option (List ℕ) → Refusal → Type 0
-EndsBoards limit held asked before after OutputFailed = StopsInBoards BeginsBoard limit held asked before after
-EndsBoards limit held asked before after OutOfMemory = Keeps before after ⊎ StopsInBoards BeginsWhole limit held asked before after
-EndsBoards limit held asked before after _ = Keeps before after
+-- what may go out of it
+abbrev pub IsBoardsPart : (Content → Zone → StopRequest → List ℕ → Type 0) → ℕ → Option Store → BoardsTexts → List ℕ → Type 0
+IsBoardsPart Part limit held asked sent =
+    (s : BoardsSetting limit held asked) × StopsInAll Part (content_of s.dataset) s.zone (requests_at limit held asked s) sent
 
 -- ---- why boards are not printed
 
--- why there are no lines of requests
-abbrev pub IsRequestsCause : ℕ → Option Store → List ℕ → ℕ → ℕ → Refusal → Type 0
-IsRequestsCause limit held path before after (Unreadable named) =
-    IsPathCause limit held path before after (Unreadable named) ⊎ ((named.now ≡ path) × HoldsNoUtf8 limit held path)
-IsRequestsCause limit held path before after refusal = IsPathCause limit held path before after refusal
+-- the file of requests
+abbrev pub request_file : ℕ → Option Store → List ℕ → Judged
+request_file limit held path = record {
+  Refuses = λ before after. IsPathCause limit held path before.folders after.folders;
+  Holds = (bytes : List ℕ) × HoldsBytes limit held path bytes;
+}
 
--- the first line that is refused
-abbrev pub IsLineCause : ℕ → Option Store → BoardsTexts → Refusal → Type 0
-IsLineCause limit held asked (Line fault) = (s : BoardsSetting limit held asked) × (requests_at limit held asked s ≡ Err fault)
-IsLineCause limit held asked _ = ⊥
+-- its bytes are not UTF-8, or this is the first line that is refused
+abbrev pub IsLinesCause : ℕ → Option Store → BoardsTexts → Refusal → Type 0
+IsLinesCause limit held asked (Unreadable named) = (named.now ≡ asked.requests) × HoldsNoUtf8 limit held asked.requests
+IsLinesCause limit held asked (Line fault) = (s : BoardsSetting limit held asked) × (requests_at limit held asked s ≡ Err fault)
+IsLinesCause limit held asked _ = ⊥
 
--- when a refusal comes where the words ask for boards: that it names the path or the line that is at fault, and that all that is judged
--- before was found good. The folder is judged first, then the zone file, the file of requests, its lines, and at last the output
-abbrev pub IsBoardsCause : ℕ → Option Store → BoardsTexts → Failures → Failures → Refusal → Type 0
-IsBoardsCause limit held asked before after refusal =
-    IsReadingCause limit held asked.dir before.folders after.folders refusal
-    ⊎ ((HoldsPassing limit held asked.dir × IsZoneCause limit held asked.zone before.folders after.folders refusal)
-    ⊎ ((HoldsPassing limit held asked.dir × HoldsSomeZone limit held asked.zone
-    × IsRequestsCause limit held asked.requests before.folders after.folders refusal)
-    ⊎ (IsLineCause limit held asked refusal
-    ⊎ IsSendingCause before.output after.output refusal)))
+-- its lines
+abbrev pub request_lines : ℕ → Option Store → BoardsTexts → Judged
+request_lines limit held asked = record { Refuses = λ before after. IsLinesCause limit held asked; Holds = ⊤ }
+
+-- the folder, the zone file, the file of requests and its lines are judged in this order
+abbrev pub boards_judges : ℕ → Option Store → BoardsTexts → Judged
+boards_judges limit held asked = followed_by (feed limit held asked.dir) (followed_by (zone limit held asked.zone)
+    (followed_by (request_file limit held asked.requests) (followed_by (request_lines limit held asked) sending)))
+
+-- the boards of a file of requests
+abbrev pub boards_plan : ℕ → Option Store → BoardsTexts → Plan
+boards_plan limit held asked = prints held (boards_judges limit held asked) (passed (IsBoardsText limit held asked))
+    (IsBoardsPart BeginsBoard limit held asked) (IsBoardsPart BeginsWhole limit held asked) 12
 
 -- ---- what the parts of the work give
 
--- the heading and the page of one request went out
-abbrev pub PrintsOne : Content → Zone → StopRequest → Option (List ℕ) → Option (List ℕ) → Type 0
-PrintsOne f z q before after = (page : List ℕ) × IsTextOf IsPage f z q page × Appends before after (request_heading q.texts ++ page)
+-- the heading and the page of one request
+abbrev pub IsOneText : Content → Zone → StopRequest → List ℕ → Type 0
+IsOneText f z q text = (page : List ℕ) × IsRequestText IsPage f z q page × (text ≡ request_heading q.texts ++ page)
 
--- what of it went out where a refusal came
-abbrev pub EndsOne : Content → Zone → StopRequest → Option (List ℕ) → Option (List ℕ) → Refusal → Type 0
-EndsOne f z q before after OutputFailed = (part : List ℕ) × BeginsBoard f z q part × Appends before after part
-EndsOne f z q before after OutOfMemory = (part : List ℕ) × BeginsWhole f z q part × Appends before after part
-EndsOne f z q before after _ = ⊥
+-- why the boards of lines are not printed, but for the output and for memory
+abbrev pub IsRequestsFault : Result (List StopRequest) RequestFault → Refusal → Type 0
+IsRequestsFault asked (Line fault) = asked ≡ Err fault
+IsRequestsFault asked _ = ⊥
 
--- why the boards of lines are not printed; the counts are those of the output's failures, before and after
-abbrev pub IsRequestsFault : Result (List StopRequest) RequestFault → ℕ → ℕ → Refusal → Type 0
-IsRequestsFault asked before after (Line fault) = asked ≡ Err fault
-IsRequestsFault asked before after refusal = IsSendingCause before after refusal
+-- the bytes are UTF-8, and this is so of a text
+abbrev pub of_utf8 : List ℕ → (List ℕ → Type 0) → List ℕ → Type 0
+of_utf8 bytes Fact text = IsUtf8 (without_marks bytes) × Fact text
 
 -- the same, or the bytes of the file of this path are no text
-abbrev pub IsFileFault : List ℕ → List ℕ → Result (List StopRequest) RequestFault → ℕ → ℕ → Refusal → Type 0
-IsFileFault path bytes asked before after (Unreadable named) = (named.now ≡ path) × (IsUtf8 (without_marks bytes) → ⊥)
-IsFileFault path bytes asked before after refusal = IsUtf8 (without_marks bytes) × IsRequestsFault asked before after refusal
+abbrev pub IsFileFault : List ℕ → List ℕ → Result (List StopRequest) RequestFault → Refusal → Type 0
+IsFileFault path bytes asked (Unreadable named) = (named.now ≡ path) × (IsUtf8 (without_marks bytes) → ⊥)
+IsFileFault path bytes asked refusal = IsUtf8 (without_marks bytes) × IsRequestsFault asked refusal

@@ -20,11 +20,6 @@ use Rattle.gtfs_cli.specs.declared.commands.refusal.Refusal.TheVariants.{BadValu
 abbrev pub merge_request_of : MergeValues → MergeRequest
 merge_request_of v = record { near = v.near; cutoff = v.cutoff }
 
--- the refusal is for the first option whose value is bad
-abbrev pub IsFirstBadMerge : MergeTexts → Refusal → Type 0
-IsFirstBadMerge asked (BadValue option) = first_bad_merge asked ≡ Some option.now
-IsFirstBadMerge asked _ = ⊥
-
 -- the feed is the merge of both folders, and the names tell its report
 abbrev pub HoldsMerge : ℕ → Option Store → MergeTexts → Option ℕ → Merged → Type 0
 HoldsMerge limit held asked near m = IsFolderMerge limit held asked (content_of_parts m.feed) (names_report near m.names)

@@ -1,6 +1,5 @@
 -- What `gtfs merge` makes of two folders: the merged feed, the files of its written form, and its report.
 use Rattle.std.specs.Prelude.{◌≡◌, ◌<◌, ◌⊎◌, ⊤, ℕ, true, false, length, List, [], ◌∷◌, ◌++◌, Option, Some, None, unwrap_or}
-use Rattle.std.specs.Io.KnownBytes.{Appends, Keeps}
 use Rattle.gtfs_devices.specs.Device.{Rises}
 use Rattle.gtfs_table.specs.Files.{file_name}
 use Rattle.gtfs_devices.specs.Folder.{put, Disturbs, Store}
@@ -18,12 +17,14 @@ use Rattle.gtfs_merge.specs.Merged.{is_too_large, zone_texts_differ}
 use Rattle.gtfs_merge.specs.Merging.{KeepsDepartures}
 use Rattle.gtfs_merge.specs.Near.{report as report_of}
 use Rattle.gtfs_commands.specs.Words.{MergeTexts}
-use Rattle.gtfs_cli.specs.MergeOptions.{first_bad_merge, HasMergeValues, IsMergeRequest, MergeRequest}
-use Rattle.gtfs_cli.specs.HeldFiles.{HoldsErrors, HoldsKeptFile, HoldsPassing, HoldsTables, LacksFeed}
-use Rattle.gtfs_cli.specs.Failures.{FailedNowhere, Failures}
-use Rattle.gtfs_cli.specs.Sending.{SendsBeginning}
+use Rattle.gtfs_cli.specs.MergeOptions.{judged_merge, IsMergeRequest, MergeRequest}
+use Rattle.gtfs_cli.specs.HeldFiles.{HoldsPassing, HoldsTables}
+use Rattle.gtfs_cli.specs.Refusals.{IsReadingCause}
+use Rattle.gtfs_cli.specs.Sending.{Begins}
+use Rattle.gtfs_cli.specs.Judging.{feed, followed_by, sending, values, Judged}
+use Rattle.gtfs_cli.specs.Plan.{Plan}
 use Rattle.gtfs_cli.specs.declared.commands.refusal.Refusal.{Refusal}
-use Rattle.gtfs_cli.specs.declared.commands.refusal.Refusal.TheVariants.{BadValue, NotThere, Unreadable, OverLimit, HasErrors, ZonesDiffer, MergeTooLarge, Unwritable, OutputFailed, OutOfMemory}
+use Rattle.gtfs_cli.specs.declared.commands.refusal.Refusal.TheVariants.{ZonesDiffer, MergeTooLarge, Unwritable, OutputFailed, OutOfMemory}
 
 -- the most bytes that a written file may have
 abbrev pub file_limit : ℕ
@@ -115,70 +116,80 @@ ReadsAgain (Some store) new dir c = (d : Dataset) → HoldsDataset new dir d →
 
 -- ---- when a merge is refused
 
--- this is so of the first folder, or of the second one where what the first one holds passes; the path names the folder that it is so of
-abbrev pub OfEither : ℕ → Option Store → MergeTexts → List ℕ → (List ℕ → Type 0) → Type 0
-OfEither limit held asked path Fact = ((path ≡ asked.a) × Fact asked.a) ⊎ ((path ≡ asked.b) × HoldsPassing limit held asked.a × Fact asked.b)
+-- when two feeds are not merged
+abbrev pub IsMergingCause : ℕ → Option Store → MergeTexts → Refusal → Type 0
+IsMergingCause limit held asked ZonesDiffer = HasTwoZones limit held asked
+IsMergingCause limit held asked MergeTooLarge = HasLargeMerge limit held asked
+IsMergingCause limit held asked _ = ⊥
 
--- why two folders are not merged: that all that is judged before was found good; the counts are those of the folders' failures, before and
+-- why two folders are not merged, the first of which is judged before the second; the counts are those of the folders' failures, before and
 -- after
-abbrev pub IsMergingCause : ℕ → Option Store → MergeTexts → ℕ → ℕ → Refusal → Type 0
-IsMergingCause limit held asked before after (NotThere path) = OfEither limit held asked path.now (LacksFeed held)
-IsMergingCause limit held asked before after (Unreadable path) = OfEither limit held asked path.now (λ dir. Rises before after)
-IsMergingCause limit held asked before after (OverLimit path) = OfEither limit held asked path.now (HoldsKeptFile limit held)
-IsMergingCause limit held asked before after (HasErrors path) = OfEither limit held asked path.now (HoldsErrors limit held)
-IsMergingCause limit held asked before after ZonesDiffer = HasTwoZones limit held asked
-IsMergingCause limit held asked before after MergeTooLarge = HasLargeMerge limit held asked
-IsMergingCause limit held asked before after OutOfMemory = after ≡ before
-IsMergingCause limit held asked before after _ = ⊥
+abbrev pub IsFoldersCause : ℕ → Option Store → MergeTexts → ℕ → ℕ → Refusal → Type 0
+IsFoldersCause limit held asked before after refusal = IsReadingCause limit held asked.a before after refusal
+    ⊎ (HoldsPassing limit held asked.a × (IsReadingCause limit held asked.b before after refusal
+    ⊎ (HoldsPassing limit held asked.b × IsMergingCause limit held asked refusal)))
 
--- when a refusal comes where the words ask for a merge; the values of the options are judged before the folders
-abbrev pub IsMergeCause : ℕ → Option Store → MergeTexts → Failures → Failures → Refusal → Type 0
-IsMergeCause limit held asked before after (BadValue option) = first_bad_merge asked ≡ Some option.now
-IsMergeCause limit held asked before after (Unwritable path) =
-    (path.now ≡ asked.out) × CanMerge limit held asked × ((asked.out ≡ []) ⊎ Rises before.folders after.folders)
-IsMergeCause limit held asked before after OutputFailed = CanMerge limit held asked × Rises before.output after.output
-IsMergeCause limit held asked before after OutOfMemory = FailedNowhere before after
-IsMergeCause limit held asked before after refusal = HasMergeValues asked × IsMergingCause limit held asked before.folders after.folders refusal
+abbrev pub merging : ℕ → Option Store → MergeTexts → Judged
+merging limit held asked = record { Refuses = λ before after. IsMergingCause limit held asked; Holds = CanMerge limit held asked }
+
+-- when the third folder is not written; the counts are those of the folders' failures, before and after
+abbrev pub IsWritingCause : MergeTexts → ℕ → ℕ → Refusal → Type 0
+IsWritingCause asked before after (Unwritable path) = (path.now ≡ asked.out) × ((asked.out ≡ []) ⊎ Rises before after)
+IsWritingCause asked before after _ = ⊥
+
+abbrev pub writing : MergeTexts → Judged
+writing asked = record { Refuses = λ before after. IsWritingCause asked before.folders after.folders; Holds = 0 < length asked.out }
+
+-- the values, the first folder, the second, their merge and the third folder are judged in this order
+abbrev pub merge_judges : ℕ → Option Store → MergeTexts → Judged
+merge_judges limit held asked = followed_by (values (judged_merge asked)) (followed_by (feed limit held asked.a) (followed_by (feed limit held asked.b)
+    (followed_by (merging limit held asked) (followed_by (writing asked) sending))))
 
 -- ---- what the folders hold then, and what went out
 
--- the folders hold what they held, and nothing went out
-abbrev pub IsUntouched : Option Store → Option Store → Option (List ℕ) → Option (List ℕ) → Type 0
-IsUntouched held now old new = (now ≡ held) × Keeps old new
-
--- all files of the merge were written, into a folder that has a name, and what went out is so of its report
-pub record IsWritten (limit : ℕ) (held : Option Store) (asked : MergeTexts) (now : Option Store) (Sent : List ℕ → Type 0) : Type 0 where
+-- all files of the merge were written, into a folder that has a name, and this is so of its report
+pub record IsWritten (limit : ℕ) (held : Option Store) (asked : MergeTexts) (now : Option Store) (OfReport : List ℕ → Type 0) : Type 0 where
   pub content : Content
   pub report : List ℕ
   pub merges : IsFolderMerge limit held asked content report
   pub named : 0 < length asked.out
   pub files : HoldsFiles held now asked.out content kept_files
   pub again : ReadsAgain held now asked.out content
-  pub sent : Sent report
+  pub of_report : OfReport report
 
--- and the whole report went out
-abbrev pub PrintsMerge : ℕ → Option Store → MergeTexts → Option Store → Option (List ℕ) → Option (List ℕ) → Type 0
-PrintsMerge limit held asked now old new = IsWritten limit held asked now (λ report. Appends old new report)
+-- the report went out whole
+abbrev pub IsMerged : ℕ → Option Store → MergeTexts → Option Store → List ℕ → Type 0
+IsMerged limit held asked now text = IsWritten limit held asked now (λ report. text ≡ report)
 
--- and a beginning of it did
-abbrev pub BeginsMerge : ℕ → Option Store → MergeTexts → Option Store → Option (List ℕ) → Option (List ℕ) → Type 0
-BeginsMerge limit held asked now old new = IsWritten limit held asked now (λ report. SendsBeginning old new report)
+-- a beginning of it did
+abbrev pub BeginsReport : ℕ → Option Store → MergeTexts → Option Store → List ℕ → Type 0
+BeginsReport limit held asked now part = Begins (IsMerged limit held asked now) part
 
 -- writing ended early, as this says of the content, and nothing went out
-pub record IsUnwritten (limit : ℕ) (held : Option Store) (asked : MergeTexts) (old new : Option (List ℕ)) (Ends : Content → Type 0) : Type 0 where
+pub record IsUnwritten (limit : ℕ) (held : Option Store) (asked : MergeTexts) (part : List ℕ) (Ends : Content → Type 0) : Type 0 where
   pub content : Content
   pub report : List ℕ
   pub merges : IsFolderMerge limit held asked content report
   pub ends : Ends content
-  pub nothing : Keeps old new
+  pub nothing : part ≡ []
 
-abbrev pub EndsMerge : ℕ → Option Store → MergeTexts → Option Store → Option (List ℕ) → Option (List ℕ) → Refusal → Type 0
-EndsMerge limit held asked now old new (Unwritable path) =
-    IsUnwritten limit held asked old new (λ c. ((asked.out ≡ []) × (now ≡ held)) ⊎ ((0 < length asked.out) × StopsAtOne held now asked.out c))
-EndsMerge limit held asked now old new OutputFailed = BeginsMerge limit held asked now old new
-EndsMerge limit held asked now old new OutOfMemory = IsUntouched held now old new
-    ⊎ (IsUnwritten limit held asked old new (λ c. HoldsSome held now asked.out c) ⊎ BeginsMerge limit held asked now old new)
-EndsMerge limit held asked now old new _ = IsUntouched held now old new
+-- what the folders hold and what went out where a refusal came
+abbrev pub MergeLeaves : ℕ → Option Store → MergeTexts → Option Store → List ℕ → Refusal → Type 0
+MergeLeaves limit held asked now part (Unwritable path) =
+    IsUnwritten limit held asked part (λ c. ((asked.out ≡ []) × (now ≡ held)) ⊎ ((0 < length asked.out) × StopsAtOne held now asked.out c))
+MergeLeaves limit held asked now part OutputFailed = BeginsReport limit held asked now part
+MergeLeaves limit held asked now part OutOfMemory = ((now ≡ held) × (part ≡ []))
+    ⊎ (IsUnwritten limit held asked part (λ c. HoldsSome held now asked.out c) ⊎ BeginsReport limit held asked now part)
+MergeLeaves limit held asked now part _ = (now ≡ held) × (part ≡ [])
+
+-- the merge of two folders into a third
+abbrev pub merge_plan : ℕ → Option Store → MergeTexts → Plan
+merge_plan limit held asked = record {
+  judges = merge_judges limit held asked;
+  Done = λ now text failed. (failed ≡ false) × IsMerged limit held asked now text;
+  Left = MergeLeaves limit held asked;
+  calls = 29;
+}
 
 -- ---- what the parts of the work give
 

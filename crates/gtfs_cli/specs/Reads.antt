@@ -8,7 +8,7 @@ use Rattle.gtfs_cli.specs.declared.commands.refusal.Refusal.{Refusal}
 
 -- at most so many calls were made, and just so many where all was done; the folders failed only where the refusal tells so, and then the
 -- call that failed was the last
-pub record Asks (count : ℕ) {T : Type 0} (before after : Device) (ended : Result T Refusal) : Type 0 where
+pub record CallsFolders (count : ℕ) {T : Type 0} (before after : Device) (ended : Result T Refusal) : Type 0 where
   pub grows : before.failures ≤ after.failures
   pub no_failure : OnOk ended (after.failures ≡ before.failures)
   pub told : IfErr ended (TellsFolders before.failures after.failures)
@@ -20,4 +20,4 @@ pub record Asks (count : ℕ) {T : Type 0} (before after : Device) (ended : Resu
 pub record Reads (count : ℕ) {T : Type 0} (before after : Device) (ended : Result T Refusal) : Type 0 where
   pub unchanged : after.held ≡ before.held
   pub same_limit : after.limit ≡ before.limit
-  pub asks : Asks count before after ended
+  pub asks : CallsFolders count before after ended

@@ -1,7 +1,8 @@
 -- Texts that go out to an output, which may fail.
-use Rattle.std.specs.Prelude.{◌≡◌, ◌≤◌, ◌⊎◌, ◌++◌, ℕ, List, Option, Result, IfErr, OnErr, OnOk}
+use Rattle.std.specs.Prelude.{◌≡◌, ◌≤◌, ◌⊎◌, ◌++◌, ℕ, List, [], Option, Result, IfErr, OnErr, OnOk}
 use Rattle.std.specs.Io.KnownBytes.{Appends}
 use Rattle.gtfs_devices.specs.Device.{Rises}
+use Rattle.gtfs_cli.specs.Refusals.{TellsOutput}
 use Rattle.gtfs_cli.specs.declared.commands.refusal.Refusal.{Refusal}
 use Rattle.gtfs_cli.specs.declared.commands.refusal.Refusal.TheVariants.{OutputFailed, OutOfMemory}
 pub use Rattle.gtfs_cli.specs.Seen.{Output}
@@ -28,5 +29,38 @@ pub record IsSent (text : List ℕ) {T : Type 0} (before after : Output) (ended 
   pub sent : OnOk ended (Appends before.told after.told text)
   pub cut_short : OnErr ended (SendsBeginning before.told after.told text)
   pub refused : IfErr ended (IsSendingCause before.failures after.failures)
+  pub grows : before.failures ≤ after.failures
+  pub no_failure : OnOk ended (after.failures ≡ before.failures)
+
+-- ---- texts of which only a property is known
+
+-- a text went out of which this is so
+abbrev pub SendsSome : (List ℕ → Type 0) → Output → Output → Type 0
+SendsSome Fact before after = (text : List ℕ) × Fact text × Appends before.told after.told text
+
+-- a text is a beginning of one of which this is so
+pub record Begins (Text : List ℕ → Type 0) (part : List ℕ) : Type 0 where
+  pub text : List ℕ
+  pub left : List ℕ
+  pub is_text : Text text
+  pub whole : text ≡ part ++ left
+
+-- nothing, or a text of which this is so
+abbrev pub or_none : (List ℕ → Type 0) → List ℕ → Type 0
+or_none Text part = (part ≡ []) ⊎ Text part
+
+-- what went out of a text where a refusal came: a part that was cut short where the output failed, a part that stopped where memory ran
+-- out, and else nothing
+abbrev pub text_left : (List ℕ → Type 0) → (List ℕ → Type 0) → List ℕ → Refusal → Type 0
+text_left Cut Stopped part OutputFailed = Cut part
+text_left Cut Stopped part OutOfMemory = Stopped part
+text_left Cut Stopped part _ = part ≡ []
+
+-- how it ends to print a text: the whole of it went out, or what is left of it where a refusal came, which has this cause or that of sending
+pub record PrintsText (Whole Cut Stopped : List ℕ → Type 0) (Cause : Refusal → Type 0) {T : Type 0} (before after : Output) (ended : Result T Refusal) : Type 0 where
+  pub printed : OnOk ended (SendsSome Whole before after)
+  pub left : IfErr ended (λ refusal. SendsSome (λ part. text_left Cut Stopped part refusal) before after)
+  pub refused : IfErr ended (λ refusal. Cause refusal ⊎ IsSendingCause before.failures after.failures refusal)
+  pub told : IfErr ended (TellsOutput before.failures after.failures)
   pub grows : before.failures ≤ after.failures
   pub no_failure : OnOk ended (after.failures ≡ before.failures)

@@ -1,8 +1,6 @@
 -- What `gtfs timetable` prints: the sheets that the words ask for.
-use Rattle.std.specs.Prelude.{◌≡◌, ◌⊎◌, ℕ, true, false, List, Option, Some}
-use Rattle.std.specs.Io.KnownBytes.{Appends, Keeps}
+use Rattle.std.specs.Prelude.{◌≡◌, ⊤, ℕ, true, false, List, Option}
 use Rattle.std.specs.List.{flat_map}
-use Rattle.gtfs_devices.specs.Device.{Rises}
 use Rattle.gtfs_devices.specs.Folder.{Store}
 use Rattle.gtfs_table.specs.Tables.{Dataset}
 use Rattle.gtfs_columns.specs.Problems.{Passes}
@@ -11,12 +9,13 @@ use Rattle.gtfs_rows.specs.Reading.{content_of}
 use Rattle.gtfs_times.specs.Filling.{timed}
 use Rattle.gtfs_board.specs.Timetable.{is_route, sheet_text, sheets}
 use Rattle.gtfs_commands.specs.Words.{TimetableTexts}
-use Rattle.gtfs_cli.specs.HeldFiles.{HoldsErrors, HoldsKeptFile, HoldsTables, LacksFeed}
-use Rattle.gtfs_cli.specs.Failures.{FailedNowhere, Failures}
-use Rattle.gtfs_cli.specs.Sending.{SendsBeginning}
-use Rattle.gtfs_cli.specs.TimetableOptions.{first_bad_timetable, HasTimetableValues, IsTimetableRequest, TimetableRequest}
+use Rattle.gtfs_cli.specs.HeldFiles.{HoldsTables}
+use Rattle.gtfs_cli.specs.Sending.{Begins}
+use Rattle.gtfs_cli.specs.TimetableOptions.{judged_timetable, IsTimetableRequest, TimetableRequest}
+use Rattle.gtfs_cli.specs.Judging.{feed, followed_by, sending, values, Judged}
+use Rattle.gtfs_cli.specs.Plan.{passed, prints, Plan}
 use Rattle.gtfs_cli.specs.declared.commands.refusal.Refusal.{Refusal}
-use Rattle.gtfs_cli.specs.declared.commands.refusal.Refusal.TheVariants.{BadValue, NotThere, Unreadable, OverLimit, HasErrors, UnknownRoute, OutputFailed, OutOfMemory}
+use Rattle.gtfs_cli.specs.declared.commands.refusal.Refusal.TheVariants.{UnknownRoute, OutOfMemory}
 use Rattle.gtfs_cli.specs.declared.commands.timetable_values.TimetableValues.{TimetableValues}
 
 -- ---- the values of the options
@@ -51,55 +50,32 @@ pub record IsTimetableText (limit : ℕ) (held : Option Store) (asked : Timetabl
   pub known : is_route (content_of setting.dataset) asked.route ≡ true
   pub is_text : text ≡ timetable_text (content_of setting.dataset) asked.route setting.request
 
--- it went out whole
-abbrev pub PrintsTimetable : ℕ → Option Store → TimetableTexts → Option (List ℕ) → Option (List ℕ) → Type 0
-PrintsTimetable limit held asked before after = (text : List ℕ) × IsTimetableText limit held asked text × Appends before after text
+-- when a route is refused
+abbrev pub IsRouteCause : ℕ → Option Store → TimetableTexts → Refusal → Type 0
+IsRouteCause limit held asked UnknownRoute = LacksRoute limit held asked
+IsRouteCause limit held asked _ = ⊥
 
--- a beginning of it went out
-abbrev pub BeginsTimetable : ℕ → Option Store → TimetableTexts → Option (List ℕ) → Option (List ℕ) → Type 0
-BeginsTimetable limit held asked before after = (text : List ℕ) × IsTimetableText limit held asked text × SendsBeginning before after text
+abbrev pub route : ℕ → Option Store → TimetableTexts → Judged
+route limit held asked = record { Refuses = λ before after. IsRouteCause limit held asked; Holds = ⊤ }
 
--- what went out where a refusal came: a beginning of the text where the output failed, the same or nothing where memory ran out, and else
--- nothing
-abbrev pub EndsTimetable : ℕ → Option Store → TimetableTexts → Option (List ℕ) → Option (List ℕ) → Refusal → Type 0
-EndsTimetable limit held asked before after OutputFailed = BeginsTimetable limit held asked before after
-EndsTimetable limit held asked before after OutOfMemory = Keeps before after ⊎ BeginsTimetable limit held asked before after
-EndsTimetable limit held asked before after _ = Keeps before after
+-- the values, the folder and the route are judged in this order
+abbrev pub timetable_judges : ℕ → Option Store → TimetableTexts → Judged
+timetable_judges limit held asked =
+    followed_by (values (judged_timetable asked)) (followed_by (feed limit held asked.dir) (followed_by (route limit held asked) sending))
 
--- when a refusal comes where the words ask for a timetable: that it names the option or the path that is at fault, and that all that is
--- judged before was found good
-abbrev pub IsTimetableCause : ℕ → Option Store → TimetableTexts → Failures → Failures → Refusal → Type 0
-IsTimetableCause limit held asked before after (BadValue option) = first_bad_timetable asked ≡ Some option.now
-IsTimetableCause limit held asked before after (NotThere path) = HasTimetableValues asked × (path.now ≡ asked.dir) × LacksFeed held asked.dir
-IsTimetableCause limit held asked before after (Unreadable path) =
-    HasTimetableValues asked × (path.now ≡ asked.dir) × Rises before.folders after.folders
-IsTimetableCause limit held asked before after (OverLimit path) = HasTimetableValues asked × (path.now ≡ asked.dir) × HoldsKeptFile limit held asked.dir
-IsTimetableCause limit held asked before after (HasErrors path) = HasTimetableValues asked × (path.now ≡ asked.dir) × HoldsErrors limit held asked.dir
-IsTimetableCause limit held asked before after UnknownRoute = LacksRoute limit held asked
-IsTimetableCause limit held asked before after OutputFailed = Rises before.output after.output
-IsTimetableCause limit held asked before after OutOfMemory = FailedNowhere before after
-IsTimetableCause limit held asked before after _ = ⊥
+-- the timetable of a route on a date
+abbrev pub timetable_plan : ℕ → Option Store → TimetableTexts → Plan
+timetable_plan limit held asked = prints held (timetable_judges limit held asked) (passed (IsTimetableText limit held asked))
+    (Begins (IsTimetableText limit held asked)) (Begins (IsTimetableText limit held asked)) 10
 
 -- ---- what the parts of the work give
 
--- the refusal is for the first option whose value is bad
-abbrev pub IsFirstBadTimetable : TimetableTexts → Refusal → Type 0
-IsFirstBadTimetable asked (BadValue option) = first_bad_timetable asked ≡ Some option.now
-IsFirstBadTimetable asked _ = ⊥
+-- why there are no sheets of a feed
+abbrev pub IsSheetsCause : Content → List ℕ → Refusal → Type 0
+IsSheetsCause f route UnknownRoute = is_route f route ≡ false
+IsSheetsCause f route OutOfMemory = ⊤
+IsSheetsCause f route _ = ⊥
 
--- why the sheets of a feed are not sent out; the counts are those of the output's failures, before and after
-abbrev pub IsSheetsCause : Content → List ℕ → ℕ → ℕ → Refusal → Type 0
-IsSheetsCause f route before after UnknownRoute = is_route f route ≡ false
-IsSheetsCause f route before after OutputFailed = Rises before after
-IsSheetsCause f route before after OutOfMemory = after ≡ before
-IsSheetsCause f route before after _ = ⊥
-
--- a beginning of the text of the sheets of a feed went out, of a route that it has
-abbrev pub BeginsSheets : Content → List ℕ → TimetableRequest → Option (List ℕ) → Option (List ℕ) → Type 0
-BeginsSheets f route r before after = (is_route f route ≡ true) × SendsBeginning before after (timetable_text f route r)
-
--- what of the sheets of a feed went out where a refusal came
-abbrev pub EndsSheets : Content → List ℕ → TimetableRequest → Option (List ℕ) → Option (List ℕ) → Refusal → Type 0
-EndsSheets f route r before after OutputFailed = BeginsSheets f route r before after
-EndsSheets f route r before after OutOfMemory = Keeps before after ⊎ BeginsSheets f route r before after
-EndsSheets f route r before after _ = Keeps before after
+-- the text of the sheets of a route that the feed has
+abbrev pub AreSheets : Content → List ℕ → TimetableRequest → List ℕ → Type 0
+AreSheets f route r text = (is_route f route ≡ true) × (text ≡ timetable_text f route r)

@@ -1,21 +1,14 @@
 //! The commands of the program, and how each ends.
-ghost use Rattle.std.specs.Prelude.{◌≡◌, ◌≢◌, ◌≤◌, List, ℕ, false, true, is_ok, map, IfOk, IfErr, IfSome, IsErrAnd, OnOk};
+ghost use Rattle.std.specs.Prelude.{◌≡◌, ◌≢◌, ◌≤◌, List, false, map, IfOk, IfSome, IsErrAnd, OnOk};
 ghost use Rattle.std.specs.Io.KnownBytes.{Appends, Keeps};
-ghost use Rattle.clap.specs.Words.{Text, takes};
-ghost use Rattle.gtfs_commands.specs.Words.{gtfs_app, no_memory, AreRefused, AsksBoardOf, AsksBoardsOf, AsksCheckOf, AsksTimetableOf, BoardTexts, BoardsTexts, IsFaultOf, TimetableTexts, AsksMergeOf, MergeTexts};
-ghost use Rattle.gtfs_cli.specs.BoardRun.{IsBoardRun};
-ghost use Rattle.gtfs_cli.specs.BoardsRun.{IsBoardsRun};
-ghost use Rattle.gtfs_cli.specs.Calls.{AreCalls};
-ghost use Rattle.gtfs_cli.specs.CheckRun.{IsCheckRun};
-ghost use Rattle.gtfs_cli.specs.CommandEnd.{answer_of, EndsCommand};
-ghost use Rattle.gtfs_cli.specs.MergeRun.{AsksNoMerge, IsMergeRun};
-ghost use Rattle.gtfs_cli.specs.Messages.{message};
-ghost use Rattle.gtfs_cli.specs.Refusals.{status_in, IsCauseInWords, TellsOutput};
+ghost use Rattle.clap.specs.Words.{Text};
+ghost use Rattle.gtfs_commands.specs.Words.{no_memory, IsFaultOf};
+ghost use Rattle.gtfs_cli.specs.Asked.{plan_of, Asked, Asks, IsAnswer, IsWordsCause};
 ghost use Rattle.gtfs_cli.specs.Failures.{FailedNowhere};
-ghost use Rattle.gtfs_cli.specs.Statuses.{IsBadUsage, IsDeviceFault};
-ghost use Rattle.gtfs_cli.specs.Sending.{Sends};
-ghost use Rattle.gtfs_cli.specs.TimetableRun.{IsTimetableRun};
-ghost use Rattle.gtfs_cli.specs.WordsRun.{AsksOne, IsAnswered, IsUntakenRun};
+ghost use Rattle.gtfs_cli.specs.Plan.{answer_of, Ends, IsRun, TellsEnd};
+ghost use Rattle.gtfs_cli.specs.Refusals.{status_in};
+ghost use Rattle.gtfs_cli.specs.Seen.{Devices, Output};
+ghost use Rattle.gtfs_cli.specs.Sending.{or_none, Begins, PrintsText};
 ghost use Rattle.gtfs_cli.specs.UntakenWords.{text_for_output, AnswersRefused};
 ghost use Rattle.gtfs_cli.specs.declared.commands.refusal.Refusal.TheVariants.{OutOfMemory};
 
@@ -42,6 +35,7 @@ mod timetable_values;
 mod values;
 mod zone_file;
 
+use crate::seen::{DevicesSeen, OutSeen};
 use gtfs_commands::{Command, WordsFault, read_words};
 use gtfs_table::{Folders, Out, write_text};
 use refusal::Refusal;
@@ -102,67 +96,34 @@ pub fn run<S: AsStr, F: Folders, O: Out, E: Out>(
     out: &mut O,
     err: &mut E,
 ) -> u8
-    ensures usage { result ≡ 2 → IsBadUsage (map S.text words.now)
-        (F.limit folders.old) (F.held folders.old) }
-    ensures device { result ≡ 3 → IsDeviceFault (map S.text words.now)
-        (F.limit folders.old) (F.held folders.old)
-        (record { folders = F.failure_count folders.old; output = O.failure_count out.old })
-        (record { folders = F.failure_count folders.new; output = O.failure_count out.new }) }
-    ensures checked { (dir : List ℕ) → AsksCheckOf (map S.text words.now) dir
-        → IsCheckRun (F.limit folders.old) (F.held folders.old) dir
-        (record { folders = F.failure_count folders.old; output = O.failure_count out.old })
-        (record { folders = F.failure_count folders.new; output = O.failure_count out.new })
-        (O.told out.old) (O.told out.new)
-        (record { told = E.told err.old; failures = E.failure_count err.old })
-        (record { told = E.told err.new; failures = E.failure_count err.new }) result }
-    ensures listed { (asked : BoardTexts) → AsksBoardOf (map S.text words.now) asked
-        → IsBoardRun (F.limit folders.old) (F.held folders.old) asked
-        (record { folders = F.failure_count folders.old; output = O.failure_count out.old })
-        (record { folders = F.failure_count folders.new; output = O.failure_count out.new })
-        (O.told out.old) (O.told out.new)
-        (record { told = E.told err.old; failures = E.failure_count err.old })
-        (record { told = E.told err.new; failures = E.failure_count err.new }) result }
-    ensures boarded { (asked : BoardsTexts) → AsksBoardsOf (map S.text words.now) asked
-        → IsBoardsRun (F.limit folders.old) (F.held folders.old) asked
-        (record { folders = F.failure_count folders.old; output = O.failure_count out.old })
-        (record { folders = F.failure_count folders.new; output = O.failure_count out.new })
-        (O.told out.old) (O.told out.new)
-        (record { told = E.told err.old; failures = E.failure_count err.old })
-        (record { told = E.told err.new; failures = E.failure_count err.new }) result }
-    ensures tabled { (asked : TimetableTexts) → AsksTimetableOf (map S.text words.now) asked
-        → IsTimetableRun (F.limit folders.old) (F.held folders.old) asked
-        (record { folders = F.failure_count folders.old; output = O.failure_count out.old })
-        (record { folders = F.failure_count folders.new; output = O.failure_count out.new })
-        (O.told out.old) (O.told out.new)
-        (record { told = E.told err.old; failures = E.failure_count err.old })
-        (record { told = E.told err.new; failures = E.failure_count err.new }) result }
-    ensures untaken { takes gtfs_app (map S.text words.now) ≡ false → IsUntakenRun
-        (map S.text words.now)
-        (record { folders = F.failure_count folders.old; output = O.failure_count out.old })
-        (record { folders = F.failure_count folders.new; output = O.failure_count out.new })
-        (O.told out.old) (O.told out.new)
-        (record { told = E.told err.old; failures = E.failure_count err.old })
-        (record { told = E.told err.new; failures = E.failure_count err.new }) result }
-    ensures merged { (asked : MergeTexts) → AsksMergeOf (map S.text words.now) asked
-        → IsMergeRun (F.limit folders.old) (F.held folders.old) asked
-        (record { folders = F.failure_count folders.old; output = O.failure_count out.old })
-        (record { folders = F.failure_count folders.new; output = O.failure_count out.new })
-        (F.held folders.new) (O.told out.old) (O.told out.new)
-        (record { told = E.told err.old; failures = E.failure_count err.old })
-        (record { told = E.told err.new; failures = E.failure_count err.new }) result }
+    ensures asks { (asked : Asked) × Asks (map S.text words.now) asked }
+    ensures ends { let before : Devices = record {
+      folders = record {
+        limit = F.limit folders.old;
+        held = F.held folders.old;
+        failures = F.failure_count folders.old;
+        calls = F.calls folders.old;
+      };
+      output = record { told = O.told out.old; failures = O.failure_count out.old };
+    } in
+        let after : Devices = record {
+          folders = record {
+            limit = F.limit folders.new;
+            held = F.held folders.new;
+            failures = F.failure_count folders.new;
+            calls = F.calls folders.new;
+          };
+          output = record { told = O.told out.new; failures = O.failure_count out.new };
+        } in
+        let err_before : Output = record { told = E.told err.old; failures = E.failure_count err.old } in
+        let err_after : Output = record { told = E.told err.new; failures = E.failure_count err.new } in
+        (asked : Asked) → Asks (map S.text words.now) asked
+        → IsRun (plan_of (F.limit folders.old) (F.held folders.old) (map S.text words.now) asked)
+        before after err_before err_after result }
     ensures statuses { result ≤ 4 }
-    ensures unchanged { AsksNoMerge (map S.text words.now)
-        → F.held folders.new ≡ F.held folders.old }
-    ensures folders_grow { F.failure_count folders.old ≤ F.failure_count folders.new }
-    ensures output_grows { O.failure_count out.old ≤ O.failure_count out.new }
     ensures no_failure { result ≢ 3 → FailedNowhere
         (record { folders = F.failure_count folders.old; output = O.failure_count out.old })
         (record { folders = F.failure_count folders.new; output = O.failure_count out.new }) }
-    ensures called { AreCalls (map S.text words.now) (result ≤ 1) (result ≡ 0)
-        (F.failure_count folders.old) (F.failure_count folders.new)
-        (F.calls folders.old) (F.calls folders.new) }
-    ensures taken { takes gtfs_app (map S.text words.now) ≡ true
-        → AsksOne (map S.text words.now) }
 {
     let ended = command(alloc, random, words, folders, out);
     finish(ended, err)
@@ -172,11 +133,8 @@ pub fn run<S: AsStr, F: Folders, O: Out, E: Out>(
 // command ended with, whatever the error output did.
 fn finish<E: Out>(ended: Result<bool, Refusal<'_>>, err: &mut E) -> u8
     ensures status { result ≡ status_in ended.entry }
-    ensures silent { OnOk ended.entry (Keeps (E.told err.old) (E.told err.new)) }
-    ensures told { IfErr ended.entry (λ refusal. Sends
-        (record { told = E.told err.old; failures = E.failure_count err.old })
-        (record { told = E.told err.new; failures = E.failure_count err.new })
-        (message refusal)) }
+    ensures told { TellsEnd (⟦<E as OutSeen>⟧.seen err.old) (⟦<E as OutSeen>⟧.seen err.new)
+        ended.entry }
 {
     match ended {
         Ok(has_errors) => u8::from(has_errors),
@@ -196,15 +154,10 @@ fn command<'w, S: AsStr, F: Folders, O: Out>(
     folders: &mut F,
     out: &mut O,
 ) -> Result<bool, Refusal<'w>>
-    ensures ends { EndsCommand (map S.text words.entry.now)
-        (F.limit folders.old) (F.held folders.old) (F.held folders.new)
-        (record { folders = F.failure_count folders.old; output = O.failure_count out.old })
-        (record { folders = F.failure_count folders.new; output = O.failure_count out.new })
-        (O.told out.old) (O.told out.new) result }
-    ensures called { AreCalls (map S.text words.entry.now)
-        (is_ok result ≡ true) (is_ok result ≡ true)
-        (F.failure_count folders.old) (F.failure_count folders.new)
-        (F.calls folders.old) (F.calls folders.new) }
+    ensures { (asked : Asked) → Asks (map S.text words.entry.now) asked → Ends
+        (plan_of (F.limit folders.old) (F.held folders.old) (map S.text words.entry.now) asked)
+        (⟦<(F, O) as DevicesSeen>⟧.seen (folders.old, out.old))
+        (⟦<(F, O) as DevicesSeen>⟧.seen (folders.new, out.new)) result }
 {
     match read_words(alloc, words) {
         Ok(Command::Check(dir)) => check::print_report(alloc, dir, folders, out),
@@ -237,20 +190,15 @@ fn answer<'w>(printed: Result<(), Refusal<'w>>) -> Result<bool, Refusal<'w>>
 // Prints the help or the version that was asked for,
 // and refuses all other words that name no command.
 fn answer_fault<'w, O: Out>(fault: WordsFault, out: &mut O) -> Result<bool, Refusal<'w>>
-    ensures answered { (texts : List Text) → IsFaultOf texts fault
-        → IfOk result (IsAnswered texts) }
-    ensures refused { (texts : List Text) → IsFaultOf texts fault → IfErr result
-        (IsCauseInWords texts (O.failure_count out.old) (O.failure_count out.new)) }
-    ensures nothing { (texts : List Text) → IsFaultOf texts fault → AreRefused texts
-        → Keeps (O.told out.old) (O.told out.new) }
+    ensures ends { (words : List Text) → IsFaultOf words fault → PrintsText (IsAnswer words)
+        (Begins (IsAnswer words)) (or_none (Begins (IsAnswer words))) (IsWordsCause words)
+        (⟦<O as OutSeen>⟧.seen out.old) (⟦<O as OutSeen>⟧.seen out.new) result }
     ensures whole { OnOk result (IfSome (text_for_output fault)
         (λ text. Appends (O.told out.old) (O.told out.new) text)) }
     ensures said { AnswersRefused fault result }
+    ensures clean { IfOk result (λ failed. failed ≡ false) }
     ensures memory { fault ≡ no_memory → IsErrAnd result (λ refusal. refusal ≡ OutOfMemory) }
     ensures unsent { fault ≡ no_memory → Keeps (O.told out.old) (O.told out.new) }
-    ensures grows { O.failure_count out.old ≤ O.failure_count out.new }
-    ensures no_failure { OnOk result (O.failure_count out.new ≡ O.failure_count out.old) }
-    ensures told { IfErr result (TellsOutput (O.failure_count out.old) (O.failure_count out.new)) }
 {
     match fault {
         WordsFault::Help(help) => {

@@ -5,10 +5,10 @@
 //!
 //! - 0: done;
 //! - 1: the feed has errors, or no stop or route of that id, or two feeds cannot be merged;
-//! - 2: the words are not as the usage wants them, the value of an option is bad,
-//!   or a board would end before it begins;
-//! - 3: a folder or a file is not there, cannot be read or is over the limit, a zone file is none,
-//!   a folder cannot be written, or the output failed;
+//! - 2: the words are not as the usage wants them, the value of an option is bad, a board would end
+//!   before it begins, or a line of a file of requests is bad;
+//! - 3: a folder or a file is not there, cannot be read or is over the limit, a zone file is none, a
+//!   file of requests is not UTF-8, a folder cannot be written, or the output failed;
 //! - 4: memory ran out, and neither a folder nor the output failed.
 //!
 //! `gtfs check DIR` prints what is wrong with the feed in a folder.
@@ -18,6 +18,11 @@
 //! most N, and only those above the key. T is `@` and an instant in seconds since
 //! 1970-01-01T00:00:00Z, or a service day YYYYMMDD, which stands for its origin in the zone: noon
 //! less twelve hours. A feed with errors has no boards.
+//!
+//! `gtfs boards DIR --zone FILE --requests FILE [--interpolate]` prints a board for each line of the
+//! file of requests, below a heading `== ID FROM UNTIL`. A line has three to five fields between
+//! tabs: ID, FROM, UNTIL, and then perhaps N and KEY, with the values that `board` takes. All lines
+//! are judged before anything is printed.
 //!
 //! `gtfs timetable DIR --route ID --date D [--direction 0|1] [--interpolate]` prints the
 //! runs of a route on a date, a sheet for each direction and list of stops. D is a date

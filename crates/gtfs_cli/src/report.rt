@@ -2,9 +2,9 @@
 //! a line for each id that changes, one for each kind, and one for near stops.
 mod counts;
 mod line;
+mod names_line;
 mod pieces;
-mod renamed;
 
 pub(crate) use counts::push_counts;
 pub(crate) use line::push_problem;
-pub(crate) use renamed::{push_joined, push_near, push_renamed};
+pub(crate) use names_line::NamesLine;

@@ -21,7 +21,7 @@ use std::alloc::Global;
 use timetable::timetable_command;
 
 // The version of the program.
-const VERSION: &str = "1.0.0";
+const VERSION: &str = "1.1.0";
 
 const ABOUT: &str =
     "Checks of GTFS Schedule feeds, departure boards and timetables from them, and one feed of two";

@@ -60,7 +60,7 @@ fn help_of_the_program_has_the_line_of_each_command(rt: HostRuntime) {
 
 // Words that ask for the help of a command, and an example in it.
 const EXAMPLES: &[(&[&str], &str)] = &[
-    (&["gtfs", "check", "--help"], "E05 trips.txt:7 route_id"),
+    (&["gtfs", "check", "--help"], "E10 trips.txt:7 route_id"),
     (
         &["gtfs", "board", "f1", "--help"],
         "@1711958400/T1/28800/3/20240401",
@@ -105,7 +105,7 @@ const VERSIONS: &[&[&str]] = &[
 #[test]
 fn the_version_is_told(rt: HostRuntime) {
     for &words in VERSIONS {
-        let found = versioned(rt.alloc(), words, "gtfs 1.0.0\n");
+        let found = versioned(rt.alloc(), words, "gtfs 1.1.0\n");
         assert_equal_at(&rt, words, found, Ok(()));
     }
 }

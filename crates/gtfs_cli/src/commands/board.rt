@@ -1,17 +1,18 @@
-ghost use Rattle.std.specs.Prelude.{◌≡◌, ◌≢◌, ◌≤◌, IfOk, IfErr, OnOk};
+ghost use Rattle.std.specs.Prelude.{◌≡◌, ℕ, List, IfErr, IfOk};
+ghost use Rattle.gtfs_rows.specs.Content.{Content};
 ghost use Rattle.gtfs_rows.specs.Views.{content_of_parts};
-ghost use Rattle.gtfs_devices.specs.Device.{FailsAtLast, MakesCalls};
-ghost use Rattle.gtfs_board.specs.Page.{IsPage};
-ghost use Rattle.gtfs_cli.specs.Boards.{request_of, AreValues, EndsBoard, EndsLines, IsLinesCause, IsOpeningCause, ListsBoard, OfBoard, PrintsBoard};
-ghost use Rattle.gtfs_cli.specs.Calls.{MakesAtMost};
+ghost use Rattle.gtfs_board.specs.Page.{IsCutShort, IsPage, IsStopped};
 ghost use Rattle.gtfs_commands.specs.Words.{texts_of};
-ghost use Rattle.gtfs_cli.specs.Failures.{FailedNowhere};
-ghost use Rattle.gtfs_cli.specs.Refusals.{IsCause, TellsFailure, TellsOutput};
+ghost use Rattle.gtfs_cli.specs.Boards.{board_plan, request_of, AreValues, IsOpeningCause, IsTextOf, ListsBoard};
+ghost use Rattle.gtfs_cli.specs.OptionValues.{Request};
+ghost use Rattle.gtfs_cli.specs.Plan.{answer_of, Ends};
+ghost use Rattle.gtfs_cli.specs.Sending.{or_none, PrintsText};
 
 use crate::commands::feed::read_feed;
 use crate::commands::refusal::Refusal;
 use crate::commands::values::{Values, read_values};
 use crate::commands::zone_file::read_zone;
+use crate::seen::{DevicesSeen, OutSeen};
 use gtfs_board::{Board, BoardFault, Feed, PageFault, Span, write_page};
 use gtfs_commands::BoardWords;
 use gtfs_days::Zone;
@@ -30,27 +31,9 @@ pub(super) fn print_board<'w, F: Folders, O: Out>(
     folders: &mut F,
     out: &mut O,
 ) -> Result<(), Refusal<'w>>
-    ensures printed { OnOk result (PrintsBoard (F.limit folders.old) (F.held folders.old)
-        (texts_of words.now) (O.told out.old) (O.told out.new)) }
-    ensures cut_short { IfErr result (EndsBoard (F.limit folders.old) (F.held folders.old)
-        (texts_of words.now) (O.told out.old) (O.told out.new)) }
-    ensures refused { IfErr result (IsCause
-        (F.limit folders.old) (F.held folders.old) (texts_of words.now)
-        (record { folders = F.failure_count folders.old; output = O.failure_count out.old })
-        (record { folders = F.failure_count folders.new; output = O.failure_count out.new })) }
-    ensures unchanged { F.held folders.new ≡ F.held folders.old }
-    ensures folders_grow { F.failure_count folders.old ≤ F.failure_count folders.new }
-    ensures output_grows { O.failure_count out.old ≤ O.failure_count out.new }
-    ensures no_failure { OnOk result (FailedNowhere
-        (record { folders = F.failure_count folders.old; output = O.failure_count out.old })
-        (record { folders = F.failure_count folders.new; output = O.failure_count out.new })) }
-    ensures told { IfErr result (TellsFailure
-        (record { folders = F.failure_count folders.old; output = O.failure_count out.old })
-        (record { folders = F.failure_count folders.new; output = O.failure_count out.new })) }
-    ensures called { OnOk result (MakesCalls 11 (F.calls folders.old) (F.calls folders.new)) }
-    ensures few { MakesAtMost 11 (F.calls folders.old) (F.calls folders.new) }
-    ensures last { F.failure_count folders.new ≢ F.failure_count folders.old
-        → FailsAtLast (F.calls folders.new) }
+    ensures { Ends (board_plan (F.limit folders.old) (F.held folders.old) (texts_of words.now))
+        (⟦<(F, O) as DevicesSeen>⟧.seen (folders.old, out.old))
+        (⟦<(F, O) as DevicesSeen>⟧.seen (folders.new, out.new)) (answer_of result) }
 {
     let values = read_values(words)?;
     let feed = read_feed(alloc, random, folders, words.dir)?;
@@ -69,21 +52,32 @@ fn print_lines<'w, O: Out>(
     out: &mut O,
 ) -> Result<(), Refusal<'w>>
     requires { AreValues (texts_of words.now) values.now }
-    ensures printed { OnOk result (OfBoard IsPage
-        (content_of_parts feed.now) zone.now words.now.stop.now
-        (request_of values.now) (O.told out.old) (O.told out.new)) }
-    ensures cut_short { IfErr result (EndsLines
-        (content_of_parts feed.now) zone.now words.now.stop.now
-        (request_of values.now) (O.told out.old) (O.told out.new)) }
-    ensures refused { IfErr result (IsLinesCause
-        (content_of_parts feed.now) zone.now words.now.stop.now
-        (request_of values.now) (O.failure_count out.old) (O.failure_count out.new)) }
-    ensures grows { O.failure_count out.old ≤ O.failure_count out.new }
-    ensures no_failure { OnOk result (O.failure_count out.new ≡ O.failure_count out.old) }
-    ensures told { IfErr result (TellsOutput (O.failure_count out.old) (O.failure_count out.new)) }
+    ensures { let f = content_of_parts feed.now in let r = request_of values.now in PrintsText
+        (IsTextOf IsPage f zone.now words.now.stop.now r)
+        (IsTextOf IsCutShort f zone.now words.now.stop.now r)
+        (or_none (IsTextOf IsStopped f zone.now words.now.stop.now r))
+        (IsOpeningCause f zone.now words.now.stop.now r)
+        (⟦<O as OutSeen>⟧.seen out.old) (⟦<O as OutSeen>⟧.seen out.new) result }
 {
     let mut board = open(alloc, feed, zone, words, values)?;
-    match write_page(alloc, &mut board, values.limit, out) {
+    print_page(alloc, &mut board, values.limit, out)
+}
+
+// Prints a page of a board: at most so many lines, each sent out whole before the next is looked
+// for.
+pub(super) fn print_page<'w, O: Out>(
+    alloc: Global,
+    board: &mut Board<'_>,
+    limit: u64,
+    out: &mut O,
+) -> Result<(), Refusal<'w>>
+    ensures { (f : Content) (stop : List ℕ) (r : Request) → r.limit ≡ limit
+        → ListsBoard f board.old.zone stop r board.old.rest → PrintsText
+        (IsTextOf IsPage f board.old.zone stop r) (IsTextOf IsCutShort f board.old.zone stop r)
+        (IsTextOf IsStopped f board.old.zone stop r) (λ _. ⊥)
+        (⟦<O as OutSeen>⟧.seen out.old) (⟦<O as OutSeen>⟧.seen out.new) result }
+{
+    match write_page(alloc, board, limit, out) {
         Ok(_) => Ok(()),
         Err(PageFault::Out(_)) => Err(Refusal::OutputFailed),
         Err(PageFault::OutOfMemory(_)) => Err(Refusal::OutOfMemory),

@@ -1,20 +1,18 @@
-ghost use Rattle.std.specs.Prelude.{◌≡◌, ◌≢◌, ◌≤◌, map, None, string_bytes, IfOk, IfErr, IsUtf8, OnOk};
+ghost use Rattle.std.specs.Prelude.{◌≡◌, map, None, string_bytes, IfOk};
 ghost use Rattle.gtfs_days.specs.Zone.{zone_origin};
-ghost use Rattle.gtfs_devices.specs.Device.{FailsAtLast, MakesCalls};
-ghost use Rattle.gtfs_table.specs.Tables.{without_marks};
 ghost use Rattle.gtfs_rows.specs.Content.{Content};
 ghost use Rattle.gtfs_rows.specs.Views.{content_of_parts};
 ghost use Rattle.gtfs_commands.specs.Words.{boards_texts_of};
 ghost use Rattle.gtfs_cli.specs.Boards.{request_of, ListsBoard};
-ghost use Rattle.gtfs_cli.specs.Calls.{MakesAtMost};
-ghost use Rattle.gtfs_cli.specs.Sending.{IsSendingCause};
 ghost use Rattle.gtfs_cli.specs.LentRequests.{request_texts_of, stop_request_of};
-ghost use Rattle.gtfs_cli.specs.ManyBoards.{EndsBoards, EndsOne, EndsRequests, IsBoardsCause, IsFileFault, IsRequestsFault, PrintsBoards, PrintsOne, PrintsRequests};
+ghost use Rattle.gtfs_cli.specs.ManyBoards.{boards_plan, of_utf8, AreAllBoards, BeginsBoard, BeginsWhole, IsFileFault, IsOneText, IsRequestsFault, StopsInAll};
 ghost use Rattle.gtfs_cli.specs.Options.{times_of};
-ghost use Rattle.gtfs_cli.specs.Refusals.{IsSound, TellsFailure, TellsOutput};
+ghost use Rattle.gtfs_cli.specs.Plan.{answer_of, Ends};
+ghost use Rattle.gtfs_cli.specs.Refusals.{IsSound};
 ghost use Rattle.gtfs_cli.specs.Requests.{fault_in, request_heading, numbered_from, requests_in, requests_of};
-ghost use Rattle.gtfs_cli.specs.Failures.{FailedNowhere};
+ghost use Rattle.gtfs_cli.specs.Sending.{or_none, PrintsText};
 
+use crate::commands::board::print_page;
 use crate::commands::feed::read_feed;
 use crate::commands::files::read_file;
 use crate::commands::refusal::Refusal;
@@ -22,7 +20,8 @@ use crate::commands::request_lines::{lines_of, text_of};
 use crate::commands::requests::{LineRequest, RequestTexts, first_fault, read_request};
 use crate::commands::times::read_times;
 use crate::commands::zone_file::read_zone;
-use gtfs_board::{Board, Feed, PageFault, Span, StopIndex, Times, write_page};
+use crate::seen::{DevicesSeen, OutSeen};
+use gtfs_board::{Board, Feed, Span, StopIndex, Times};
 use gtfs_commands::BoardsWords;
 use gtfs_days::Zone;
 use gtfs_field::OutOfMemory;
@@ -42,27 +41,9 @@ pub(super) fn print_boards<'w, F: Folders, O: Out>(
     folders: &mut F,
     out: &mut O,
 ) -> Result<(), Refusal<'w>>
-    ensures printed { OnOk result (PrintsBoards (F.limit folders.old) (F.held folders.old)
-        (boards_texts_of words.now) (O.told out.old) (O.told out.new)) }
-    ensures cut_short { IfErr result (EndsBoards (F.limit folders.old) (F.held folders.old)
-        (boards_texts_of words.now) (O.told out.old) (O.told out.new)) }
-    ensures refused { IfErr result (IsBoardsCause
-        (F.limit folders.old) (F.held folders.old) (boards_texts_of words.now)
-        (record { folders = F.failure_count folders.old; output = O.failure_count out.old })
-        (record { folders = F.failure_count folders.new; output = O.failure_count out.new })) }
-    ensures unchanged { F.held folders.new ≡ F.held folders.old }
-    ensures folders_grow { F.failure_count folders.old ≤ F.failure_count folders.new }
-    ensures output_grows { O.failure_count out.old ≤ O.failure_count out.new }
-    ensures no_failure { OnOk result (FailedNowhere
-        (record { folders = F.failure_count folders.old; output = O.failure_count out.old })
-        (record { folders = F.failure_count folders.new; output = O.failure_count out.new })) }
-    ensures told { IfErr result (TellsFailure
-        (record { folders = F.failure_count folders.old; output = O.failure_count out.old })
-        (record { folders = F.failure_count folders.new; output = O.failure_count out.new })) }
-    ensures called { OnOk result (MakesCalls 12 (F.calls folders.old) (F.calls folders.new)) }
-    ensures few { MakesAtMost 12 (F.calls folders.old) (F.calls folders.new) }
-    ensures last { F.failure_count folders.new ≢ F.failure_count folders.old
-        → FailsAtLast (F.calls folders.new) }
+    ensures { Ends (boards_plan (F.limit folders.old) (F.held folders.old) (boards_texts_of words.now))
+        (⟦<(F, O) as DevicesSeen>⟧.seen (folders.old, out.old))
+        (⟦<(F, O) as DevicesSeen>⟧.seen (folders.new, out.new)) (answer_of result) }
 {
     let feed = read_feed(alloc, random, folders, words.dir)?;
     let zone = read_zone(alloc, folders, words.zone)?;
@@ -79,22 +60,13 @@ fn print_file<'w, O: Out>(
     words: &BoardsWords<'w>,
     out: &mut O,
 ) -> Result<(), Refusal<'w>>
-    ensures utf8 { OnOk result (IsUtf8 (without_marks bytes.now)) }
-    ensures printed { OnOk result (PrintsRequests (content_of_parts feed.now) zone.now
-        (requests_of (content_of_parts feed.now) (zone_origin zone.now)
-        (times_of words.now.interpolate) bytes.now)
-        (O.told out.old) (O.told out.new)) }
-    ensures cut_short { IfErr result (EndsRequests (content_of_parts feed.now) zone.now
-        (requests_of (content_of_parts feed.now) (zone_origin zone.now)
-        (times_of words.now.interpolate) bytes.now)
-        (O.told out.old) (O.told out.new)) }
-    ensures refused { IfErr result (IsFileFault words.now.requests.now bytes.now
-        (requests_of (content_of_parts feed.now) (zone_origin zone.now)
-        (times_of words.now.interpolate) bytes.now)
-        (O.failure_count out.old) (O.failure_count out.new)) }
-    ensures grows { O.failure_count out.old ≤ O.failure_count out.new }
-    ensures no_failure { OnOk result (O.failure_count out.new ≡ O.failure_count out.old) }
-    ensures told { IfErr result (TellsOutput (O.failure_count out.old) (O.failure_count out.new)) }
+    ensures { let f = content_of_parts feed.now in let asked = requests_of f
+        (zone_origin zone.now) (times_of words.now.interpolate) bytes.now in PrintsText
+        (of_utf8 bytes.now (AreAllBoards f zone.now asked))
+        (of_utf8 bytes.now (StopsInAll BeginsBoard f zone.now asked))
+        (or_none (of_utf8 bytes.now (StopsInAll BeginsWhole f zone.now asked)))
+        (IsFileFault words.now.requests.now bytes.now asked)
+        (⟦<O as OutSeen>⟧.seen out.old) (⟦<O as OutSeen>⟧.seen out.new) result }
 {
     let Some(text) = text_of(bytes) else {
         return Err(Refusal::Unreadable(words.requests));
@@ -119,21 +91,11 @@ fn print_lines<'w, O: Out>(
     times: Times,
     out: &mut O,
 ) -> Result<(), Refusal<'w>>
-    ensures printed { OnOk result (PrintsRequests (content_of_parts feed.now) zone.now
-        (requests_in (content_of_parts feed.now) (zone_origin zone.now) times
-        (numbered_from 1 (map (λ l. l.now) lines.now)))
-        (O.told out.old) (O.told out.new)) }
-    ensures cut_short { IfErr result (EndsRequests (content_of_parts feed.now) zone.now
-        (requests_in (content_of_parts feed.now) (zone_origin zone.now) times
-        (numbered_from 1 (map (λ l. l.now) lines.now)))
-        (O.told out.old) (O.told out.new)) }
-    ensures refused { IfErr result (IsRequestsFault
-        (requests_in (content_of_parts feed.now) (zone_origin zone.now) times
-        (numbered_from 1 (map (λ l. l.now) lines.now)))
-        (O.failure_count out.old) (O.failure_count out.new)) }
-    ensures grows { O.failure_count out.old ≤ O.failure_count out.new }
-    ensures no_failure { OnOk result (O.failure_count out.new ≡ O.failure_count out.old) }
-    ensures told { IfErr result (TellsOutput (O.failure_count out.old) (O.failure_count out.new)) }
+    ensures { let f = content_of_parts feed.now in let asked = requests_in f
+        (zone_origin zone.now) times (numbered_from 1 (map (λ l. l.now) lines.now)) in PrintsText
+        (AreAllBoards f zone.now asked) (StopsInAll BeginsBoard f zone.now asked)
+        (or_none (StopsInAll BeginsWhole f zone.now asked)) (IsRequestsFault asked)
+        (⟦<O as OutSeen>⟧.seen out.old) (⟦<O as OutSeen>⟧.seen out.new) result }
 {
     if let Some(fault) = first_fault(alloc, feed, zone, lines, times)? {
         return Err(Refusal::Line(fault));
@@ -155,18 +117,11 @@ fn print_requests<'w, O: Out>(
     requires known { fault_in (requests_in
         (content_of_parts index.now.feed) (zone_origin zone.now) times
         (numbered_from 1 (map (λ l. l.now) lines.now))) ≡ None }
-    ensures printed { OnOk result (PrintsRequests (content_of_parts index.now.feed) zone.now
-        (requests_in (content_of_parts index.now.feed) (zone_origin zone.now) times
-        (numbered_from 1 (map (λ l. l.now) lines.now)))
-        (O.told out.old) (O.told out.new)) }
-    ensures cut_short { IfErr result (EndsRequests (content_of_parts index.now.feed) zone.now
-        (requests_in (content_of_parts index.now.feed) (zone_origin zone.now) times
-        (numbered_from 1 (map (λ l. l.now) lines.now)))
-        (O.told out.old) (O.told out.new)) }
-    ensures refused { IfErr result (IsSendingCause (O.failure_count out.old)
-        (O.failure_count out.new)) }
-    ensures grows { O.failure_count out.old ≤ O.failure_count out.new }
-    ensures no_failure { OnOk result (O.failure_count out.new ≡ O.failure_count out.old) }
+    ensures { let f = content_of_parts index.now.feed in let asked = requests_in f
+        (zone_origin zone.now) times (numbered_from 1 (map (λ l. l.now) lines.now)) in PrintsText
+        (AreAllBoards f zone.now asked) (StopsInAll BeginsBoard f zone.now asked)
+        (or_none (StopsInAll BeginsWhole f zone.now asked)) (λ _. ⊥)
+        (⟦<O as OutSeen>⟧.seen out.old) (⟦<O as OutSeen>⟧.seen out.new) result }
 {
     for line in lines {
         let Some(request) = read_request(line, times) else {
@@ -188,14 +143,9 @@ fn print_request<'w, O: Out>(
     requires times { request.now.values.times ≡ index.now.times }
     requires from { IsSound request.now.values.from }
     requires until { IsSound request.now.values.until }
-    ensures printed { OnOk result (PrintsOne (content_of_parts index.now.feed) zone.now
-        (stop_request_of request.now) (O.told out.old) (O.told out.new)) }
-    ensures cut_short { IfErr result (EndsOne (content_of_parts index.now.feed) zone.now
-        (stop_request_of request.now) (O.told out.old) (O.told out.new)) }
-    ensures refused { IfErr result (IsSendingCause (O.failure_count out.old)
-        (O.failure_count out.new)) }
-    ensures grows { O.failure_count out.old ≤ O.failure_count out.new }
-    ensures no_failure { OnOk result (O.failure_count out.new ≡ O.failure_count out.old) }
+    ensures { let f = content_of_parts index.now.feed in let q = stop_request_of request.now in
+        PrintsText (IsOneText f zone.now q) (BeginsBoard f zone.now q) (BeginsWhole f zone.now q) (λ _. ⊥)
+        (⟦<O as OutSeen>⟧.seen out.old) (⟦<O as OutSeen>⟧.seen out.new) result }
 {
     let mut board = open(alloc, index, zone, request)?;
     print_opened(alloc, &mut board, request, out)
@@ -241,26 +191,14 @@ fn print_opened<'w, O: Out>(
     request: &LineRequest<'_>,
     out: &mut O,
 ) -> Result<(), Refusal<'w>>
-    ensures printed { (f : Content) → ListsBoard f board.old.zone request.now.texts.stop.now
-        (request_of request.now.values) board.old.rest
-        → OnOk result (PrintsOne f board.old.zone (stop_request_of request.now)
-        (O.told out.old) (O.told out.new)) }
-    ensures cut_short { (f : Content) → ListsBoard f board.old.zone request.now.texts.stop.now
-        (request_of request.now.values) board.old.rest
-        → IfErr result (EndsOne f board.old.zone (stop_request_of request.now)
-        (O.told out.old) (O.told out.new)) }
-    ensures refused { IfErr result (IsSendingCause (O.failure_count out.old)
-        (O.failure_count out.new)) }
-    ensures grows { O.failure_count out.old ≤ O.failure_count out.new }
-    ensures no_failure { OnOk result (O.failure_count out.new ≡ O.failure_count out.old) }
+    ensures { (f : Content) → let q = stop_request_of request.now in let z = board.old.zone in
+        ListsBoard f z q.texts.stop q.request board.old.rest
+        → PrintsText (IsOneText f z q) (BeginsBoard f z q) (BeginsWhole f z q) (λ _. ⊥)
+        (⟦<O as OutSeen>⟧.seen out.old) (⟦<O as OutSeen>⟧.seen out.new) result }
 {
     let heading = heading(alloc, &request.texts)?;
     write_text(out, heading.as_bytes())?;
-    match write_page(alloc, board, request.values.limit, out) {
-        Ok(_) => Ok(()),
-        Err(PageFault::Out(_)) => Err(Refusal::OutputFailed),
-        Err(PageFault::OutOfMemory(_)) => Err(Refusal::OutOfMemory),
-    }
+    print_page(alloc, board, request.values.limit, out)
 }
 
 // The line above a board.

@@ -1,20 +1,17 @@
-ghost use Rattle.std.specs.Prelude.{◌≡◌, ◌≢◌, ◌≤◌, map, count_by, length, IfOk, IfErr, OnOk, OnErr};
-ghost use Rattle.gtfs_devices.specs.Device.{FailsAtLast, MakesCalls};
-ghost use Rattle.std.specs.Io.KnownBytes.{Appends};
+ghost use Rattle.std.specs.Prelude.{◌≡◌, ◌≤◌, not, map, count_by, length, IfOk};
 ghost use Rattle.gtfs_columns.specs.Codes.{is_error};
-ghost use Rattle.gtfs_rules.specs.Report.{problem_line, report_text};
+ghost use Rattle.gtfs_columns.specs.Problems.{passes};
 ghost use Rattle.gtfs_columns.specs.View.{problem_of};
-ghost use Rattle.gtfs_cli.specs.Checking.{counts_text, IsReportOf, Prints};
-ghost use Rattle.gtfs_cli.specs.Calls.{MakesAtMost};
-ghost use Rattle.gtfs_cli.specs.CheckRun.{EndsCheck};
-ghost use Rattle.gtfs_cli.specs.Sending.{IsSendingCause, SendsBeginning};
-ghost use Rattle.gtfs_cli.specs.Refusals.{IsCheckCause, TellsFailure};
-ghost use Rattle.gtfs_cli.specs.Failures.{FailedNowhere};
+ghost use Rattle.gtfs_rules.specs.Report.{problem_line, report_text};
+ghost use Rattle.gtfs_cli.specs.Checking.{check_plan, counts_text};
+ghost use Rattle.gtfs_cli.specs.Plan.{Ends};
+ghost use Rattle.gtfs_cli.specs.Sending.{IsSent};
 
 use crate::commands::folder::read_tables;
 use crate::commands::refusal::Refusal;
 use crate::commands::send::send;
 use crate::report::{push_counts, push_problem};
+use crate::seen::{DevicesSeen, OutSeen};
 use gtfs_rules::{Problem, check};
 use gtfs_table::{Folders, Out};
 use std::alloc::Global;
@@ -29,26 +26,9 @@ pub(super) fn print_report<'w, F: Folders, O: Out>(
     folders: &mut F,
     out: &mut O,
 ) -> Result<bool, Refusal<'w>>
-    ensures printed { IfOk result (IsReportOf (F.limit folders.old) (F.held folders.old) dir.now
-        (O.told out.old) (O.told out.new)) }
-    ensures cut_short { IfErr result (EndsCheck (F.limit folders.old) (F.held folders.old) dir.now
-        (O.told out.old) (O.told out.new)) }
-    ensures refused { IfErr result (IsCheckCause (F.limit folders.old) (F.held folders.old) dir.now
-        (record { folders = F.failure_count folders.old; output = O.failure_count out.old })
-        (record { folders = F.failure_count folders.new; output = O.failure_count out.new })) }
-    ensures unchanged { F.held folders.new ≡ F.held folders.old }
-    ensures folders_grow { F.failure_count folders.old ≤ F.failure_count folders.new }
-    ensures output_grows { O.failure_count out.old ≤ O.failure_count out.new }
-    ensures no_failure { OnOk result (FailedNowhere
-        (record { folders = F.failure_count folders.old; output = O.failure_count out.old })
-        (record { folders = F.failure_count folders.new; output = O.failure_count out.new })) }
-    ensures told { IfErr result (TellsFailure
-        (record { folders = F.failure_count folders.old; output = O.failure_count out.old })
-        (record { folders = F.failure_count folders.new; output = O.failure_count out.new })) }
-    ensures called { OnOk result (MakesCalls 10 (F.calls folders.old) (F.calls folders.new)) }
-    ensures few { MakesAtMost 10 (F.calls folders.old) (F.calls folders.new) }
-    ensures last { F.failure_count folders.new ≢ F.failure_count folders.old
-        → FailsAtLast (F.calls folders.new) }
+    ensures { Ends (check_plan (F.limit folders.old) (F.held folders.old) dir.now)
+        (⟦<(F, O) as DevicesSeen>⟧.seen (folders.old, out.old))
+        (⟦<(F, O) as DevicesSeen>⟧.seen (folders.new, out.new)) result }
 {
     let tables = read_tables(alloc, folders, dir, Vec::new(alloc))?;
     let report = check(alloc, &tables)?;
@@ -62,14 +42,9 @@ fn print_problems<'w, O: Out>(
     problems: &[Problem<'_>],
     out: &mut O,
 ) -> Result<bool, Refusal<'w>>
-    ensures printed { IfOk result (Prints (O.told out.old) (O.told out.new)
-        (map problem_of problems.now)) }
-    ensures cut_short { OnErr result (SendsBeginning (O.told out.old) (O.told out.new)
-        (report_text (map problem_of problems.now))) }
-    ensures refused { IfErr result (IsSendingCause (O.failure_count out.old)
-        (O.failure_count out.new)) }
-    ensures grows { O.failure_count out.old ≤ O.failure_count out.new }
-    ensures no_failure { OnOk result (O.failure_count out.new ≡ O.failure_count out.old) }
+    ensures sent { IsSent (report_text (map problem_of problems.now))
+        (⟦<O as OutSeen>⟧.seen out.old) (⟦<O as OutSeen>⟧.seen out.new) result }
+    ensures answer { IfOk result (λ failed. failed ≡ not (passes (map problem_of problems.now))) }
 {
     let mut line = String::new(alloc);
     for problem in problems {
@@ -86,14 +61,8 @@ fn print_problem<'w, O: Out>(
     problem: &Problem<'_>,
     out: &mut O,
 ) -> Result<(), Refusal<'w>>
-    ensures sent { OnOk result (Appends (O.told out.old) (O.told out.new)
-        (problem_line (problem_of problem.now))) }
-    ensures cut_short { OnErr result (SendsBeginning (O.told out.old) (O.told out.new)
-        (problem_line (problem_of problem.now))) }
-    ensures refused { IfErr result (IsSendingCause (O.failure_count out.old)
-        (O.failure_count out.new)) }
-    ensures grows { O.failure_count out.old ≤ O.failure_count out.new }
-    ensures no_failure { OnOk result (O.failure_count out.new ≡ O.failure_count out.old) }
+    ensures sent { IsSent (problem_line (problem_of problem.now)) (⟦<O as OutSeen>⟧.seen out.old)
+        (⟦<O as OutSeen>⟧.seen out.new) result }
 {
     line.clear();
     push_problem(line, problem)?;
@@ -107,14 +76,8 @@ fn print_counts<'w, O: Out>(
     warnings: usize,
     out: &mut O,
 ) -> Result<(), Refusal<'w>>
-    ensures sent { OnOk result (Appends (O.told out.old) (O.told out.new)
-        (counts_text errors warnings)) }
-    ensures cut_short { OnErr result (SendsBeginning (O.told out.old) (O.told out.new)
-        (counts_text errors warnings)) }
-    ensures refused { IfErr result (IsSendingCause (O.failure_count out.old)
-        (O.failure_count out.new)) }
-    ensures grows { O.failure_count out.old ≤ O.failure_count out.new }
-    ensures no_failure { OnOk result (O.failure_count out.new ≡ O.failure_count out.old) }
+    ensures sent { IsSent (counts_text errors warnings) (⟦<O as OutSeen>⟧.seen out.old)
+        (⟦<O as OutSeen>⟧.seen out.new) result }
 {
     line.clear();
     push_counts(line, errors, warnings)?;

@@ -1,30 +1,28 @@
-ghost use Rattle.std.specs.Prelude.{◌≡◌, ◌≢◌, ◌<◌, ◌≤◌, ℕ, length, Option, IfOk, IfErr, IfSome, OnOk, Some, string_bytes, true};
+ghost use Rattle.std.specs.Prelude.{◌≡◌, ◌<◌, ◌≤◌, ℕ, length, Option, IfOk, IfErr, IfSome, OnOk, Some, string_bytes, true};
 ghost use Rattle.gtfs_days.specs.Service.{is_service_day};
 ghost use Rattle.gtfs_rows.specs.Views.{content_of_parts};
 ghost use Rattle.gtfs_rows.specs.Written.{written};
 ghost use Rattle.gtfs_rows.specs.WrittenForm.{IsWrittenForm};
 ghost use Rattle.gtfs_merge.specs.Merging.{IsMergeOf, KeepsDepartures};
 ghost use Rattle.gtfs_table.specs.Files.{file_name};
-ghost use Rattle.gtfs_devices.specs.Device.{FailsAtLast, MakesCalls};
 ghost use Rattle.gtfs_devices.specs.Folder.{CountsFault, RefusesWrite, Store, Writes};
 ghost use Rattle.gtfs_table.specs.Reading.{kept_files};
 ghost use Rattle.gtfs_table.specs.Tables.{table_of, table_of_bytes};
 ghost use Rattle.gtfs_table.specs.Written.{text_of_table};
 ghost use Rattle.gtfs_table.specs.declared.file.File.{File as FileOf};
-ghost use Rattle.gtfs_cli.specs.Calls.{MakesAtMost};
 ghost use Rattle.gtfs_commands.specs.Words.{merge_texts_of};
-ghost use Rattle.gtfs_cli.specs.Merges.{file_limit, file_text, EndsMerge, HoldsFiles, IsFileEnd, IsMergeCause, IsMergeFault, IsMergingCause, IsWritingEnd, PrintsMerge};
+ghost use Rattle.gtfs_cli.specs.Merges.{file_limit, file_text, merge_plan, HoldsFiles, IsFileEnd, IsFoldersCause, IsMergeFault, IsWritingEnd};
 ghost use Rattle.gtfs_cli.specs.MergeOptions.{IsMergeRequest};
 ghost use Rattle.gtfs_cli.specs.MergeParts.{merge_request_of, AllReadAs, HoldsMerge, ReadsAs};
-ghost use Rattle.gtfs_cli.specs.Reads.{Asks, Reads};
-ghost use Rattle.gtfs_cli.specs.Refusals.{TellsFailure, TellsFolders};
-ghost use Rattle.gtfs_cli.specs.Failures.{FailedNowhere};
+ghost use Rattle.gtfs_cli.specs.Plan.{answer_of, Ends};
+ghost use Rattle.gtfs_cli.specs.Reads.{CallsFolders, Reads};
+ghost use Rattle.gtfs_cli.specs.Refusals.{TellsFolders};
 
 use crate::commands::feed::read_draft;
 use crate::commands::merge_values::{MergeValues, read_merge_values};
 use crate::commands::names::print_names;
 use crate::commands::refusal::Refusal;
-use crate::seen::FoldersSeen;
+use crate::seen::{DevicesSeen, FoldersSeen};
 use gtfs_board::Feed;
 use gtfs_commands::MergeWords;
 use gtfs_field::OutOfMemory;
@@ -47,26 +45,9 @@ pub(super) fn print_merge<'w, F: Folders, O: Out>(
     folders: &mut F,
     out: &mut O,
 ) -> Result<(), Refusal<'w>>
-    ensures printed { OnOk result (PrintsMerge (F.limit folders.old) (F.held folders.old)
-        (merge_texts_of words.now) (F.held folders.new) (O.told out.old) (O.told out.new)) }
-    ensures cut_short { IfErr result (EndsMerge (F.limit folders.old) (F.held folders.old)
-        (merge_texts_of words.now) (F.held folders.new) (O.told out.old) (O.told out.new)) }
-    ensures refused { IfErr result (IsMergeCause (F.limit folders.old) (F.held folders.old)
-        (merge_texts_of words.now)
-        (record { folders = F.failure_count folders.old; output = O.failure_count out.old })
-        (record { folders = F.failure_count folders.new; output = O.failure_count out.new })) }
-    ensures folders_grow { F.failure_count folders.old ≤ F.failure_count folders.new }
-    ensures output_grows { O.failure_count out.old ≤ O.failure_count out.new }
-    ensures no_failure { OnOk result (FailedNowhere
-        (record { folders = F.failure_count folders.old; output = O.failure_count out.old })
-        (record { folders = F.failure_count folders.new; output = O.failure_count out.new })) }
-    ensures told { IfErr result (TellsFailure
-        (record { folders = F.failure_count folders.old; output = O.failure_count out.old })
-        (record { folders = F.failure_count folders.new; output = O.failure_count out.new })) }
-    ensures called { OnOk result (MakesCalls 29 (F.calls folders.old) (F.calls folders.new)) }
-    ensures few { MakesAtMost 29 (F.calls folders.old) (F.calls folders.new) }
-    ensures last { F.failure_count folders.new ≢ F.failure_count folders.old
-        → FailsAtLast (F.calls folders.new) }
+    ensures { Ends (merge_plan (F.limit folders.old) (F.held folders.old) (merge_texts_of words.now))
+        (⟦<(F, O) as DevicesSeen>⟧.seen (folders.old, out.old))
+        (⟦<(F, O) as DevicesSeen>⟧.seen (folders.new, out.new)) (answer_of result) }
 {
     let values = read_merge_values(words)?;
     // What is read first and what is made last lie in one piece of memory.
@@ -90,7 +71,7 @@ fn merge_folders<'w, F: Folders>(
     requires { IsMergeRequest (merge_texts_of words.now) (merge_request_of values.now) }
     ensures merged { IfOk result (HoldsMerge (F.limit folders.old) (F.held folders.old)
         (merge_texts_of words.now) values.now.near) }
-    ensures refused { IfErr result (IsMergingCause (F.limit folders.old) (F.held folders.old)
+    ensures refused { IfErr result (IsFoldersCause (F.limit folders.old) (F.held folders.old)
         (merge_texts_of words.now) (F.failure_count folders.old) (F.failure_count folders.new)) }
     ensures reads { Reads 20 (⟦<F as FoldersSeen>⟧.seen folders.old)
         (⟦<F as FoldersSeen>⟧.seen folders.new) result }
@@ -154,7 +135,7 @@ fn write_feed<'w, F: Folders>(
     ensures refused { IfErr result (IsWritingEnd (F.held folders.old) (F.held folders.new)
         (F.failure_count folders.old) (F.failure_count folders.new)
         dir.now (content_of_parts feed.now)) }
-    ensures asks { Asks 9 (⟦<F as FoldersSeen>⟧.seen folders.old)
+    ensures asks { CallsFolders 9 (⟦<F as FoldersSeen>⟧.seen folders.old)
         (⟦<F as FoldersSeen>⟧.seen folders.new) result }
 {
     if dir.is_empty() {
@@ -180,7 +161,7 @@ fn write_file<'w, F: Folders>(
     ensures read { OnOk result (ReadsAs (content_of_parts feed.now) file) }
     ensures refused { IfErr result (IsFileEnd (F.held folders.old) (F.held folders.new)
         (F.failure_count folders.old) (F.failure_count folders.new) dir.now file) }
-    ensures asks { Asks 1 (⟦<F as FoldersSeen>⟧.seen folders.old)
+    ensures asks { CallsFolders 1 (⟦<F as FoldersSeen>⟧.seen folders.old)
         (⟦<F as FoldersSeen>⟧.seen folders.new) result }
 {
     let text = text_of_file(alloc, feed, file, memory)?;

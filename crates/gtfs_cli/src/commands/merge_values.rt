@@ -1,7 +1,8 @@
 ghost use Rattle.std.specs.Prelude.{◌≡◌, option_map, IfOk, IfErr};
 ghost use Rattle.gtfs_commands.specs.Words.{merge_texts_of};
-ghost use Rattle.gtfs_cli.specs.MergeOptions.{cutoff_of, near_of, IsMergeRequest};
-ghost use Rattle.gtfs_cli.specs.MergeParts.{merge_request_of, IsFirstBadMerge};
+ghost use Rattle.gtfs_cli.specs.MergeOptions.{cutoff_of, judged_merge, near_of, IsMergeRequest};
+ghost use Rattle.gtfs_cli.specs.Judging.{IsFirstBad};
+ghost use Rattle.gtfs_cli.specs.MergeParts.{merge_request_of};
 
 use crate::commands::moments::read_service_day;
 use crate::commands::refusal::Refusal;
@@ -23,7 +24,7 @@ pub(super) struct MergeValues {
 pub(super) fn read_merge_values<'w>(words: &MergeWords<'w>) -> Result<MergeValues, Refusal<'w>>
     ensures read { IfOk result (λ values. IsMergeRequest (merge_texts_of words.now)
         (merge_request_of values)) }
-    ensures refused { IfErr result (IsFirstBadMerge (merge_texts_of words.now)) }
+    ensures refused { IfErr result (IsFirstBad (judged_merge (merge_texts_of words.now))) }
 {
     let Some(near) = read_near(words.near) else {
         return Err(Refusal::BadValue("--near"));

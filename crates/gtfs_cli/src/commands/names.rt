@@ -1,13 +1,13 @@
-ghost use Rattle.std.specs.Prelude.{◌≡◌, ◌≤◌, Some, flat_map, length, IfErr, OnOk, OnErr};
-ghost use Rattle.std.specs.Io.KnownBytes.{Appends};
+ghost use Rattle.std.specs.Prelude.{Some, flat_map, length};
 ghost use Rattle.gtfs_merge.specs.Near.{near_line};
-ghost use Rattle.gtfs_merge.specs.Report.{kinds, renamed_line};
-ghost use Rattle.gtfs_cli.specs.NamesReport.{both_lines, count_line, ids_report, named_line, names_report, near_text, side_lines};
-ghost use Rattle.gtfs_cli.specs.Sending.{IsSendingCause, SendsBeginning};
+ghost use Rattle.gtfs_merge.specs.Report.{kinds};
+ghost use Rattle.gtfs_cli.specs.NamesReport.{both_lines, count_line, ids_report, line_text, named_line, names_report, side_lines};
+ghost use Rattle.gtfs_cli.specs.Sending.{IsSent};
 
 use crate::commands::refusal::Refusal;
 use crate::commands::send::send;
-use crate::report::{push_joined, push_near, push_renamed};
+use crate::report::NamesLine;
+use crate::seen::OutSeen;
 use gtfs_merge::{Kind, Names, Side};
 use gtfs_table::Out;
 use std::alloc::Global;
@@ -21,52 +21,34 @@ pub(super) fn print_names<'w, O: Out>(
     near: Option<u32>,
     out: &mut O,
 ) -> Result<(), Refusal<'w>>
-    ensures printed { OnOk result (Appends (O.told out.old) (O.told out.new)
-        (names_report near names.now)) }
-    ensures cut_short { OnErr result (SendsBeginning (O.told out.old) (O.told out.new)
-        (names_report near names.now)) }
-    ensures refused { IfErr result (IsSendingCause (O.failure_count out.old)
-        (O.failure_count out.new)) }
-    ensures grows { O.failure_count out.old ≤ O.failure_count out.new }
-    ensures no_failure { OnOk result (O.failure_count out.new ≡ O.failure_count out.old) }
+    ensures sent { IsSent (names_report near names.now) (⟦<O as OutSeen>⟧.seen out.old)
+        (⟦<O as OutSeen>⟧.seen out.new) result }
 {
-    let mut line = String::new(alloc);
-    print_ids(names, &mut line, out)?;
-    print_near(names, near, &mut line, out)
+    let mut text = String::new(alloc);
+    print_ids(names, &mut text, out)?;
+    print_near(names, near, &mut text, out)
 }
 
 // The lines of the ids that change, and those of how many are joined.
-fn print_ids<'w, O: Out>(names: &Names, line: &mut String, out: &mut O) -> Result<(), Refusal<'w>>
-    ensures printed { OnOk result (Appends (O.told out.old) (O.told out.new)
-        (ids_report names.now)) }
-    ensures cut_short { OnErr result (SendsBeginning (O.told out.old) (O.told out.new)
-        (ids_report names.now)) }
-    ensures refused { IfErr result (IsSendingCause (O.failure_count out.old)
-        (O.failure_count out.new)) }
-    ensures grows { O.failure_count out.old ≤ O.failure_count out.new }
-    ensures no_failure { OnOk result (O.failure_count out.new ≡ O.failure_count out.old) }
+fn print_ids<'w, O: Out>(names: &Names, text: &mut String, out: &mut O) -> Result<(), Refusal<'w>>
+    ensures sent { IsSent (ids_report names.now) (⟦<O as OutSeen>⟧.seen out.old)
+        (⟦<O as OutSeen>⟧.seen out.new) result }
 {
-    print_renamed(names, line, out)?;
-    print_joined(names, line, out)
+    print_renamed(names, text, out)?;
+    print_joined(names, text, out)
 }
 
 // The lines of the ids that change, one kind after another.
 fn print_renamed<'w, O: Out>(
     names: &Names,
-    line: &mut String,
+    text: &mut String,
     out: &mut O,
 ) -> Result<(), Refusal<'w>>
-    ensures printed { OnOk result (Appends (O.told out.old) (O.told out.new)
-        (flat_map (both_lines names.now) kinds)) }
-    ensures cut_short { OnErr result (SendsBeginning (O.told out.old) (O.told out.new)
-        (flat_map (both_lines names.now) kinds)) }
-    ensures refused { IfErr result (IsSendingCause (O.failure_count out.old)
-        (O.failure_count out.new)) }
-    ensures grows { O.failure_count out.old ≤ O.failure_count out.new }
-    ensures no_failure { OnOk result (O.failure_count out.new ≡ O.failure_count out.old) }
+    ensures sent { IsSent (flat_map (both_lines names.now) kinds) (⟦<O as OutSeen>⟧.seen out.old)
+        (⟦<O as OutSeen>⟧.seen out.new) result }
 {
     for kind in &Kind::ALL {
-        print_kind(names, *kind, line, out)?;
+        print_kind(names, *kind, text, out)?;
     }
     Ok(())
 }
@@ -75,20 +57,14 @@ fn print_renamed<'w, O: Out>(
 fn print_kind<'w, O: Out>(
     names: &Names,
     kind: Kind,
-    line: &mut String,
+    text: &mut String,
     out: &mut O,
 ) -> Result<(), Refusal<'w>>
-    ensures printed { OnOk result (Appends (O.told out.old) (O.told out.new)
-        (both_lines names.now kind)) }
-    ensures cut_short { OnErr result (SendsBeginning (O.told out.old) (O.told out.new)
-        (both_lines names.now kind)) }
-    ensures refused { IfErr result (IsSendingCause (O.failure_count out.old)
-        (O.failure_count out.new)) }
-    ensures grows { O.failure_count out.old ≤ O.failure_count out.new }
-    ensures no_failure { OnOk result (O.failure_count out.new ≡ O.failure_count out.old) }
+    ensures sent { IsSent (both_lines names.now kind) (⟦<O as OutSeen>⟧.seen out.old)
+        (⟦<O as OutSeen>⟧.seen out.new) result }
 {
-    print_side(names, Side::A, kind, line, out)?;
-    print_side(names, Side::B, kind, line, out)
+    print_side(names, Side::A, kind, text, out)?;
+    print_side(names, Side::B, kind, text, out)
 }
 
 // Those of a side.
@@ -96,22 +72,16 @@ fn print_side<'w, O: Out>(
     names: &Names,
     side: Side,
     kind: Kind,
-    line: &mut String,
+    text: &mut String,
     out: &mut O,
 ) -> Result<(), Refusal<'w>>
-    ensures printed { OnOk result (Appends (O.told out.old) (O.told out.new)
-        (side_lines names.now side kind)) }
-    ensures cut_short { OnErr result (SendsBeginning (O.told out.old) (O.told out.new)
-        (side_lines names.now side kind)) }
-    ensures refused { IfErr result (IsSendingCause (O.failure_count out.old)
-        (O.failure_count out.new)) }
-    ensures grows { O.failure_count out.old ≤ O.failure_count out.new }
-    ensures no_failure { OnOk result (O.failure_count out.new ≡ O.failure_count out.old) }
+    ensures sent { IsSent (side_lines names.now side kind) (⟦<O as OutSeen>⟧.seen out.old)
+        (⟦<O as OutSeen>⟧.seen out.new) result }
 {
     let ids = names.ids(side, kind);
     for (number, id) in ids.iter().enumerate() {
         let name = names.by_number(side, kind, number);
-        print_id(side, kind, id.as_str(), name, line, out)?;
+        print_id(side, kind, id.as_str(), name, text, out)?;
     }
     Ok(())
 }
@@ -122,126 +92,67 @@ fn print_id<'w, O: Out>(
     kind: Kind,
     id: &str,
     name: &str,
-    line: &mut String,
+    text: &mut String,
     out: &mut O,
 ) -> Result<(), Refusal<'w>>
-    ensures printed { OnOk result (Appends (O.told out.old) (O.told out.new)
-        (named_line side kind id.now (Some name.now))) }
-    ensures cut_short { OnErr result (SendsBeginning (O.told out.old) (O.told out.new)
-        (named_line side kind id.now (Some name.now))) }
-    ensures refused { IfErr result (IsSendingCause (O.failure_count out.old)
-        (O.failure_count out.new)) }
-    ensures grows { O.failure_count out.old ≤ O.failure_count out.new }
-    ensures no_failure { OnOk result (O.failure_count out.new ≡ O.failure_count out.old) }
+    ensures sent { IsSent (named_line side kind id.now (Some name.now))
+        (⟦<O as OutSeen>⟧.seen out.old) (⟦<O as OutSeen>⟧.seen out.new) result }
 {
     if name == id {
         return Ok(());
     }
-    print_change(side, kind, id, name, line, out)
-}
-
-// The line of an id that changes. It is made in a text that was used before.
-fn print_change<'w, O: Out>(
-    side: Side,
-    kind: Kind,
-    id: &str,
-    name: &str,
-    line: &mut String,
-    out: &mut O,
-) -> Result<(), Refusal<'w>>
-    ensures printed { OnOk result (Appends (O.told out.old) (O.told out.new)
-        (renamed_line side kind id.now name.now)) }
-    ensures cut_short { OnErr result (SendsBeginning (O.told out.old) (O.told out.new)
-        (renamed_line side kind id.now name.now)) }
-    ensures refused { IfErr result (IsSendingCause (O.failure_count out.old)
-        (O.failure_count out.new)) }
-    ensures grows { O.failure_count out.old ≤ O.failure_count out.new }
-    ensures no_failure { OnOk result (O.failure_count out.new ≡ O.failure_count out.old) }
-{
-    line.clear();
-    push_renamed(line, side, kind, id, name)?;
-    send(line.as_bytes(), out)
+    let line = NamesLine::Renamed {
+        side,
+        kind,
+        old: id,
+        new: name,
+    };
+    print_line(line, text, out)
 }
 
 // The lines of how many ids are joined, one kind after another.
 fn print_joined<'w, O: Out>(
     names: &Names,
-    line: &mut String,
+    text: &mut String,
     out: &mut O,
 ) -> Result<(), Refusal<'w>>
-    ensures printed { OnOk result (Appends (O.told out.old) (O.told out.new)
-        (flat_map (count_line names.now) kinds)) }
-    ensures cut_short { OnErr result (SendsBeginning (O.told out.old) (O.told out.new)
-        (flat_map (count_line names.now) kinds)) }
-    ensures refused { IfErr result (IsSendingCause (O.failure_count out.old)
-        (O.failure_count out.new)) }
-    ensures grows { O.failure_count out.old ≤ O.failure_count out.new }
-    ensures no_failure { OnOk result (O.failure_count out.new ≡ O.failure_count out.old) }
+    ensures sent { IsSent (flat_map (count_line names.now) kinds) (⟦<O as OutSeen>⟧.seen out.old)
+        (⟦<O as OutSeen>⟧.seen out.new) result }
 {
     for kind in &Kind::ALL {
-        print_count(names, *kind, line, out)?;
+        let count = names.joined(*kind).len();
+        print_line(NamesLine::Joined { kind: *kind, count }, text, out)?;
     }
     Ok(())
-}
-
-// That of a kind, made in the same way.
-fn print_count<'w, O: Out>(
-    names: &Names,
-    kind: Kind,
-    line: &mut String,
-    out: &mut O,
-) -> Result<(), Refusal<'w>>
-    ensures printed { OnOk result (Appends (O.told out.old) (O.told out.new)
-        (count_line names.now kind)) }
-    ensures cut_short { OnErr result (SendsBeginning (O.told out.old) (O.told out.new)
-        (count_line names.now kind)) }
-    ensures refused { IfErr result (IsSendingCause (O.failure_count out.old)
-        (O.failure_count out.new)) }
-    ensures grows { O.failure_count out.old ≤ O.failure_count out.new }
-    ensures no_failure { OnOk result (O.failure_count out.new ≡ O.failure_count out.old) }
-{
-    line.clear();
-    push_joined(line, kind, names.joined(kind).len())?;
-    send(line.as_bytes(), out)
 }
 
 // The line of how many stops are near, if it was asked for.
 fn print_near<'w, O: Out>(
     names: &Names,
     near: Option<u32>,
-    line: &mut String,
+    text: &mut String,
     out: &mut O,
 ) -> Result<(), Refusal<'w>>
-    ensures printed { OnOk result (Appends (O.told out.old) (O.told out.new)
-        (near_line near (length names.now.near))) }
-    ensures cut_short { OnErr result (SendsBeginning (O.told out.old) (O.told out.new)
-        (near_line near (length names.now.near))) }
-    ensures refused { IfErr result (IsSendingCause (O.failure_count out.old)
-        (O.failure_count out.new)) }
-    ensures grows { O.failure_count out.old ≤ O.failure_count out.new }
-    ensures no_failure { OnOk result (O.failure_count out.new ≡ O.failure_count out.old) }
+    ensures sent { IsSent (near_line near (length names.now.near)) (⟦<O as OutSeen>⟧.seen out.old)
+        (⟦<O as OutSeen>⟧.seen out.new) result }
 {
     let Some(_) = near else {
         return Ok(());
     };
-    print_near_count(names.near().len(), line, out)
+    let count = names.near().len();
+    print_line(NamesLine::Near { count }, text, out)
 }
 
-// The line of so many near stops, made in the same way.
-fn print_near_count<'w, O: Out>(
-    count: usize,
-    line: &mut String,
+// Sends a line out. It is made in a text that was used before.
+fn print_line<'w, O: Out>(
+    line: NamesLine<'_>,
+    text: &mut String,
     out: &mut O,
 ) -> Result<(), Refusal<'w>>
-    ensures printed { OnOk result (Appends (O.told out.old) (O.told out.new) (near_text count)) }
-    ensures cut_short { OnErr result (SendsBeginning (O.told out.old) (O.told out.new)
-        (near_text count)) }
-    ensures refused { IfErr result (IsSendingCause (O.failure_count out.old)
-        (O.failure_count out.new)) }
-    ensures grows { O.failure_count out.old ≤ O.failure_count out.new }
-    ensures no_failure { OnOk result (O.failure_count out.new ≡ O.failure_count out.old) }
+    ensures sent { IsSent (line_text line.entry) (⟦<O as OutSeen>⟧.seen out.old)
+        (⟦<O as OutSeen>⟧.seen out.new) result }
 {
-    line.clear();
-    push_near(line, count)?;
-    send(line.as_bytes(), out)
+    text.clear();
+    line.push(text)?;
+    send(text.as_bytes(), out)
 }

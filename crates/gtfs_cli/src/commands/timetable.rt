@@ -1,22 +1,19 @@
-ghost use Rattle.std.specs.Prelude.{◌≡◌, ◌≢◌, ◌≤◌, ℕ, map, true, IfOk, IfErr, OnOk, OnErr};
+ghost use Rattle.std.specs.Prelude.{◌≡◌, map, true, IfErr, IfOk, OnOk};
 ghost use Rattle.std.specs.List.{flat_map};
-ghost use Rattle.std.specs.Io.KnownBytes.{Appends};
-ghost use Rattle.gtfs_devices.specs.Device.{FailsAtLast, MakesCalls};
 ghost use Rattle.gtfs_rows.specs.Views.{content_of_parts};
 ghost use Rattle.gtfs_times.specs.Filling.{timed};
 ghost use Rattle.gtfs_board.specs.LentSheets.{plain_sheet};
 ghost use Rattle.gtfs_board.specs.Timetable.{is_route, sheet_text, sheets};
 ghost use Rattle.gtfs_commands.specs.Words.{timetable_texts_of};
-ghost use Rattle.gtfs_cli.specs.Calls.{MakesAtMost};
-ghost use Rattle.gtfs_cli.specs.Refusals.{TellsFailure, TellsOutput};
-ghost use Rattle.gtfs_cli.specs.Failures.{FailedNowhere};
-ghost use Rattle.gtfs_cli.specs.Sending.{IsSendingCause, SendsBeginning};
-ghost use Rattle.gtfs_cli.specs.Timetables.{timetable_request_of, timetable_text, EndsSheets, EndsTimetable, IsSheetsCause, IsTimetableCause, PrintsTimetable};
+ghost use Rattle.gtfs_cli.specs.Plan.{answer_of, Ends};
+ghost use Rattle.gtfs_cli.specs.Sending.{or_none, Begins, IsSent, PrintsText};
+ghost use Rattle.gtfs_cli.specs.Timetables.{timetable_plan, timetable_request_of, AreSheets, IsSheetsCause};
 
 use crate::commands::feed::read_feed;
 use crate::commands::refusal::Refusal;
 use crate::commands::send::send;
 use crate::commands::timetable_values::{TimetableValues, read_timetable_values};
+use crate::seen::{DevicesSeen, OutSeen};
 use gtfs_board::{Feed, Sheet, TableFault, push_sheet, timetable};
 use gtfs_commands::TimetableWords;
 use gtfs_table::{Folders, Out};
@@ -34,27 +31,9 @@ pub(super) fn print_timetable<'w, F: Folders, O: Out>(
     folders: &mut F,
     out: &mut O,
 ) -> Result<(), Refusal<'w>>
-    ensures printed { OnOk result (PrintsTimetable (F.limit folders.old) (F.held folders.old)
-        (timetable_texts_of words.now) (O.told out.old) (O.told out.new)) }
-    ensures cut_short { IfErr result (EndsTimetable (F.limit folders.old) (F.held folders.old)
-        (timetable_texts_of words.now) (O.told out.old) (O.told out.new)) }
-    ensures refused { IfErr result (IsTimetableCause (F.limit folders.old) (F.held folders.old)
-        (timetable_texts_of words.now)
-        (record { folders = F.failure_count folders.old; output = O.failure_count out.old })
-        (record { folders = F.failure_count folders.new; output = O.failure_count out.new })) }
-    ensures unchanged { F.held folders.new ≡ F.held folders.old }
-    ensures folders_grow { F.failure_count folders.old ≤ F.failure_count folders.new }
-    ensures output_grows { O.failure_count out.old ≤ O.failure_count out.new }
-    ensures no_failure { OnOk result (FailedNowhere
-        (record { folders = F.failure_count folders.old; output = O.failure_count out.old })
-        (record { folders = F.failure_count folders.new; output = O.failure_count out.new })) }
-    ensures told { IfErr result (TellsFailure
-        (record { folders = F.failure_count folders.old; output = O.failure_count out.old })
-        (record { folders = F.failure_count folders.new; output = O.failure_count out.new })) }
-    ensures called { OnOk result (MakesCalls 10 (F.calls folders.old) (F.calls folders.new)) }
-    ensures few { MakesAtMost 10 (F.calls folders.old) (F.calls folders.new) }
-    ensures last { F.failure_count folders.new ≢ F.failure_count folders.old
-        → FailsAtLast (F.calls folders.new) }
+    ensures { Ends (timetable_plan (F.limit folders.old) (F.held folders.old) (timetable_texts_of words.now))
+        (⟦<(F, O) as DevicesSeen>⟧.seen (folders.old, out.old))
+        (⟦<(F, O) as DevicesSeen>⟧.seen (folders.new, out.new)) (answer_of result) }
 {
     let values = read_timetable_values(words)?;
     let feed = read_feed(alloc, random, folders, words.dir)?;
@@ -69,16 +48,10 @@ fn print_sheets<'w, O: Out>(
     values: &TimetableValues,
     out: &mut O,
 ) -> Result<(), Refusal<'w>>
-    ensures known { OnOk result (is_route (content_of_parts feed.now) route.now ≡ true) }
-    ensures printed { OnOk result (Appends (O.told out.old) (O.told out.new)
-        (timetable_text (content_of_parts feed.now) route.now (timetable_request_of values.now))) }
-    ensures cut_short { IfErr result (EndsSheets (content_of_parts feed.now) route.now
-        (timetable_request_of values.now) (O.told out.old) (O.told out.new)) }
-    ensures refused { IfErr result (IsSheetsCause (content_of_parts feed.now) route.now
-        (O.failure_count out.old) (O.failure_count out.new)) }
-    ensures grows { O.failure_count out.old ≤ O.failure_count out.new }
-    ensures no_failure { OnOk result (O.failure_count out.new ≡ O.failure_count out.old) }
-    ensures told { IfErr result (TellsOutput (O.failure_count out.old) (O.failure_count out.new)) }
+    ensures { let f = content_of_parts feed.now in let r = timetable_request_of values.now in PrintsText
+        (AreSheets f route.now r) (Begins (AreSheets f route.now r))
+        (or_none (Begins (AreSheets f route.now r))) (IsSheetsCause f route.now)
+        (⟦<O as OutSeen>⟧.seen out.old) (⟦<O as OutSeen>⟧.seen out.new) result }
 {
     let sheets = sheets_of(alloc, feed, route, values)?;
     send_sheets(alloc, sheets.as_slice(), out)
@@ -95,8 +68,7 @@ fn sheets_of<'a, 'w>(
     ensures sheets { IfOk result (λ found. map plain_sheet found.items
         ≡ sheets (timed values.now.times (content_of_parts feed.now)) route.now
         values.now.direction values.now.day) }
-    ensures refused { IfErr result (λ refusal. (count : ℕ)
-        → IsSheetsCause (content_of_parts feed.now) route.now count count refusal) }
+    ensures refused { IfErr result (IsSheetsCause (content_of_parts feed.now) route.now) }
 {
     match timetable(
         alloc,
@@ -118,14 +90,8 @@ fn send_sheets<'w, O: Out>(
     sheets: &[Sheet<'_>],
     out: &mut O,
 ) -> Result<(), Refusal<'w>>
-    ensures sent { OnOk result (Appends (O.told out.old) (O.told out.new)
-        (flat_map sheet_text (map plain_sheet sheets.now))) }
-    ensures cut_short { OnErr result (SendsBeginning (O.told out.old) (O.told out.new)
-        (flat_map sheet_text (map plain_sheet sheets.now))) }
-    ensures refused { IfErr result (IsSendingCause (O.failure_count out.old)
-        (O.failure_count out.new)) }
-    ensures grows { O.failure_count out.old ≤ O.failure_count out.new }
-    ensures no_failure { OnOk result (O.failure_count out.new ≡ O.failure_count out.old) }
+    ensures sent { IsSent (flat_map sheet_text (map plain_sheet sheets.now))
+        (⟦<O as OutSeen>⟧.seen out.old) (⟦<O as OutSeen>⟧.seen out.new) result }
 {
     let mut text = String::new(alloc);
     for sheet in sheets {
@@ -141,14 +107,8 @@ fn send_sheet<'w, O: Out>(
     sheet: &Sheet<'_>,
     out: &mut O,
 ) -> Result<(), Refusal<'w>>
-    ensures sent { OnOk result (Appends (O.told out.old) (O.told out.new)
-        (sheet_text (plain_sheet sheet.now))) }
-    ensures cut_short { OnErr result (SendsBeginning (O.told out.old) (O.told out.new)
-        (sheet_text (plain_sheet sheet.now))) }
-    ensures refused { IfErr result (IsSendingCause (O.failure_count out.old)
-        (O.failure_count out.new)) }
-    ensures grows { O.failure_count out.old ≤ O.failure_count out.new }
-    ensures no_failure { OnOk result (O.failure_count out.new ≡ O.failure_count out.old) }
+    ensures sent { IsSent (sheet_text (plain_sheet sheet.now)) (⟦<O as OutSeen>⟧.seen out.old)
+        (⟦<O as OutSeen>⟧.seen out.new) result }
 {
     text.clear();
     push_sheet(alloc, text, sheet)?;

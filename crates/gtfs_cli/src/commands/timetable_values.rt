@@ -1,7 +1,8 @@
 ghost use Rattle.std.specs.Prelude.{◌≡◌, option_map, IfOk, IfErr};
 ghost use Rattle.gtfs_commands.specs.Words.{timetable_texts_of};
-ghost use Rattle.gtfs_cli.specs.TimetableOptions.{direction_of, IsTimetableRequest};
-ghost use Rattle.gtfs_cli.specs.Timetables.{timetable_request_of, IsFirstBadTimetable};
+ghost use Rattle.gtfs_cli.specs.TimetableOptions.{direction_of, judged_timetable, IsTimetableRequest};
+ghost use Rattle.gtfs_cli.specs.Judging.{IsFirstBad};
+ghost use Rattle.gtfs_cli.specs.Timetables.{timetable_request_of};
 
 use crate::commands::refusal::Refusal;
 use crate::commands::times::read_times;
@@ -27,7 +28,7 @@ pub(super) fn read_timetable_values<'w>(
 ) -> Result<TimetableValues, Refusal<'w>>
     ensures read { IfOk result (λ values. IsTimetableRequest (timetable_texts_of words.now)
         (timetable_request_of values)) }
-    ensures refused { IfErr result (IsFirstBadTimetable (timetable_texts_of words.now)) }
+    ensures refused { IfErr result (IsFirstBad (judged_timetable (timetable_texts_of words.now))) }
 {
     let Ok(day) = read_date(words.date) else {
         return Err(Refusal::BadValue("--date"));

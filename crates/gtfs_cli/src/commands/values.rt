@@ -2,8 +2,8 @@ ghost use Rattle.std.specs.Prelude.{◌≡◌, None, Some, option_map, IfOk, IfE
 ghost use Rattle.gtfs_board.specs.Lent.{plain_key};
 ghost use Rattle.gtfs_cli.specs.Boards.{AreValues};
 ghost use Rattle.gtfs_commands.specs.Words.{texts_of};
-ghost use Rattle.gtfs_cli.specs.Refusals.{IsFirstBad};
-ghost use Rattle.gtfs_cli.specs.OptionValues.{after_of, limit_of};
+ghost use Rattle.gtfs_cli.specs.Judging.{IsFirstBad};
+ghost use Rattle.gtfs_cli.specs.OptionValues.{after_of, judged_board, limit_of};
 
 use crate::commands::moments::{Moment, read_moment};
 use crate::commands::refusal::Refusal;
@@ -34,7 +34,7 @@ pub(super) struct Values<'w> {
 // Errors: `BadValue` of the first that is bad.
 pub(super) fn read_values<'w>(words: &BoardWords<'w>) -> Result<Values<'w>, Refusal<'w>>
     ensures read { IfOk result (AreValues (texts_of words.now)) }
-    ensures refused { IfErr result (IsFirstBad (texts_of words.now)) }
+    ensures refused { IfErr result (IsFirstBad (judged_board (texts_of words.now))) }
 {
     let Some(from) = read_moment(words.from) else {
         return Err(Refusal::BadValue("--from"));

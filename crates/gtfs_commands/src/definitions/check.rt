@@ -13,7 +13,7 @@ const ABOUT: &str = "Print what is wrong with a feed";
 const CHECK: &str = "gtfs check DIR";
 
 const LINES: &str =
-    "A line for each problem, as E05 trips.txt:7 route_id and what it means, and last\n\
+    "A line for each problem, as E10 trips.txt:7 route_id and what it means, and last\n\
     errors N warnings N. The status is 1 where there is an error.";
 
 pub(super) fn check_command<'w>(alloc: Global) -> Result<Command<'w>, OutOfMemory>

@@ -1,8 +1,13 @@
-use Rattle.gtfs_cli.proofs.OneBoard.{one-board}
-use Rattle.gtfs_cli.proofs.OneBoards.{one-boards}
-use Rattle.gtfs_cli.proofs.OneMerge.{one-merge}
-use Rattle.gtfs_cli.proofs.Outcomes.{one-check, one-timetable}
+use Rattle.std.proofs.Common.{Some}
+use Rattle.gtfs_cli.specs.Asked.{plan_of}
+use Rattle.gtfs_cli.proofs.AskedOne.{one-asked}
+use Rattle.gtfs_cli.proofs.OneCommand.{one-command}
+use Rattle.gtfs_cli.proofs.OneOutcome.{one-outcome}
 use Rattle.gtfs_cli.proofs.law.outcomes_are_one.Goals as goal
 
-pub returns : goal.returns
-returns c = record { check = one-check; board = one-board; boards = one-boards; timetable = one-timetable; merge = one-merge }
+pub returns-clause-asked : goal.returns-clause-asked
+returns-clause-asked c = one-asked
+
+pub returns-clause-outcome : goal.returns-clause-outcome
+returns-clause-outcome c = λ limit store words asked x y taken asks.
+    one-outcome (plan_of limit (Some store) words asked) (Some store) (one-command limit store words asked taken asks) x y

@@ -1,6 +1,9 @@
-use Rattle.gtfs_cli.proofs.RunBoards.{boards-ends}
-use Rattle.gtfs_cli.proofs.RunOutcomes.{board-ends, check-ends, merge-ends, timetable-ends}
+use Rattle.std.proofs.Common.{Some}
+use Rattle.gtfs_cli.specs.Asked.{plan_of}
+use Rattle.gtfs_cli.proofs.OneCommand.{one-command}
+use Rattle.gtfs_cli.proofs.OneOutcome.{run-ends}
 use Rattle.gtfs_cli.proofs.law.runs_end_with_outcomes.Goals as goal
 
 pub returns : goal.returns
-returns c = record { check = check-ends; board = board-ends; boards = boards-ends; timetable = timetable-ends; merge = merge-ends }
+returns c = λ limit store words asked before after err told status taken asks free.
+    run-ends (plan_of limit (Some store) words asked) (Some store) (one-command limit store words asked taken asks) before after err told status free

@@ -1,13 +1,10 @@
-use Rattle.std.proofs.Common.{◌≡◌, ◌≤◌, map, take}
+use Rattle.std.proofs.Common.{take}
 use Rattle.std.specs.Prelude.{flat_map}
-use Rattle.std.specs.Io.KnownBytes.{Appends}
-use Rattle.gtfs_rules.specs.Report.{problem_line}
-use Rattle.gtfs_columns.specs.View.{problem_of}
+use Rattle.gtfs_cli.proofs.Reported.{shown_problem}
+use Rattle.gtfs_cli.proofs.Sent.{output, SentWhole}
 use Rattle.gtfs_cli.proofs.commands.check.print_problems.Given as goal
 
 abbrev pub invariant-loop-problem : goal.invariant-loop-problem
-invariant-loop-problem g l = record {
-  sent : Appends (g.O.Out.told l.initial.out) (g.O.Out.told l.out) (flat_map problem_line (map problem_of (take l.problem-index l.problems)));
-  grows : g.O.Out.failure_count l.initial.out ≤ g.O.Out.failure_count l.out;
-  no_failure : g.O.Out.failure_count l.out ≡ g.O.Out.failure_count l.initial.out;
-}
+invariant-loop-problem g l =
+    SentWhole (flat_map shown_problem (take l.problem-index l.problems)) (output (g.O.Out.told l.initial.out) (g.O.Out.failure_count l.initial.out))
+    (output (g.O.Out.told l.out) (g.O.Out.failure_count l.out))

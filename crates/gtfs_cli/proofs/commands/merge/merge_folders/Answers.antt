@@ -1,16 +1,17 @@
-use Rattle.std.proofs.Common.{◌∙◌, ℕ, Option, arith, subst, sym}
+use Rattle.std.proofs.Common.{◌∙◌, ℕ, Option, arith, inl, inr, subst, sym}
 use Rattle.std.proofs.lemmas.Result.{IfErr-weaker, IfOk-weaker}
 use Rattle.gtfs_devices.specs.Folder.{Store}
 use Rattle.gtfs_rows.specs.declared.parts.Parts.{Parts as Feed}
 use Rattle.gtfs_commands.specs.Words.{merge_texts_of}
 use Rattle.gtfs_cli.specs.Boards.{HoldsFeed}
 use Rattle.gtfs_cli.specs.MergeParts.{merge_request_of}
-use Rattle.gtfs_cli.specs.Merges.{IsMergingCause}
+use Rattle.gtfs_cli.specs.Merges.{IsFoldersCause}
 use Rattle.gtfs_cli.specs.Refusals.{IsReadingCause}
 use Rattle.gtfs_cli.specs.declared.commands.refusal.Refusal.TheVariants.{OutOfMemory}
 use Rattle.gtfs_cli.proofs.MergeValues.{cutoff-day, near-bound}
 use Rattle.gtfs_cli.proofs.ReadsThen.{reads-back, reads-done, reads-then, reads-up, told-up}
-use Rattle.gtfs_cli.proofs.Unmerged.{first-unread, is-merged, second-unread, unmerged}
+use Rattle.gtfs_cli.proofs.BoardParts.{has-passing}
+use Rattle.gtfs_cli.proofs.Unmerged.{is-merged, unmerged-by}
 use Rattle.gtfs_cli.proofs.commands.merge.merge_folders.Goals as goal
 
 pub merge_feeds-requires : goal.merge_feeds-requires
@@ -25,12 +26,9 @@ pub returns-in_err-draft-clause-refused : goal.returns-in_err-draft-clause-refus
 returns-in_err-draft-clause-refused g c =
     let F = g.F.Folders in
     let old = c.args.folders.now in
-    let x = F.failure_count old in
-    let y = F.failure_count c.read_draft.new.folders in
-    let asked = merge_texts_of c.args.words.now in
     let r = c.in_err-draft.field-0.0 in
-    told-up c.from_residual.result r (IsMergingCause (F.limit old) (F.held old) asked x y) c.from_residual.ensures.1
-    (first-unread (F.limit old) (F.held old) asked x y r c.in_err-draft.ensures.refused)
+    told-up c.from_residual.result r (IsFoldersCause (F.limit old) (F.held old) (merge_texts_of c.args.words.now) (F.failure_count old) (F.failure_count c.read_draft.new.folders))
+    c.from_residual.ensures.1 (inl c.in_err-draft.ensures.refused)
 
 pub returns-in_err-draft-clause-reads : goal.returns-in_err-draft-clause-reads
 returns-in_err-draft-clause-reads g c = reads-up 10 20 _ _ c.from_residual.result c.in_err-draft.field-0.0 (omega arith) c.from_residual.ensures.1 c.in_err-draft.ensures.reads
@@ -40,8 +38,8 @@ returns-in_err-a-clause-refused g c =
     let F = g.F.Folders in
     let old = c.args.folders.now in
     told-up c.from_residual-in_err-a.result OutOfMemory
-    (IsMergingCause (F.limit old) (F.held old) (merge_texts_of c.args.words.now) (F.failure_count old) (F.failure_count c.read_draft.new.folders)) c.from_residual-in_err-a.ensures.1
-    c.in_ok-draft.ensures.reads.asks.no_failure
+    (IsFoldersCause (F.limit old) (F.held old) (merge_texts_of c.args.words.now) (F.failure_count old) (F.failure_count c.read_draft.new.folders)) c.from_residual-in_err-a.ensures.1
+    (inl c.in_ok-draft.ensures.reads.asks.no_failure)
 
 -- ---- the second
 
@@ -49,13 +47,14 @@ pub returns-in_err-draft-2-clause-refused : goal.returns-in_err-draft-2-clause-r
 returns-in_err-draft-2-clause-refused g c =
     let F = g.F.Folders in
     let old = c.args.folders.now in
-    let x = F.failure_count old in
     let y = F.failure_count c.read_draft-2.new.folders in
     let asked = merge_texts_of c.args.words.now in
     let r = c.in_err-draft-2.field-0.0 in
-    told-up c.from_residual-in_err-draft-2.result r (IsMergingCause (F.limit old) (F.held old) asked x y) c.from_residual-in_err-draft-2.ensures.1
-    (second-unread (F.limit old) (F.held old) asked x y c.in_ok-draft.draft c.in_ok-draft.ensures.read r
-    (reads-back 10 _ _ _ (λ (l : ℕ) (h : Option Store) (n : ℕ). IsReadingCause l h asked.b n y r) c.in_ok-draft.ensures.reads c.in_err-draft-2.ensures.refused))
+    told-up c.from_residual-in_err-draft-2.result r (IsFoldersCause (F.limit old) (F.held old) asked (F.failure_count old) y) c.from_residual-in_err-draft-2.ensures.1
+    (inr (
+      has-passing (F.limit old) (F.held old) asked.a c.in_ok-draft.draft c.in_ok-draft.ensures.read,
+      inl (reads-back 10 _ _ _ (λ (l : ℕ) (h : Option Store) (n : ℕ). IsReadingCause l h asked.b n y r) c.in_ok-draft.ensures.reads c.in_err-draft-2.ensures.refused),
+    ))
 
 pub returns-in_err-draft-2-clause-reads : goal.returns-in_err-draft-2-clause-reads
 returns-in_err-draft-2-clause-reads g c =
@@ -67,8 +66,8 @@ returns-in_err-b-clause-refused g c =
     let F = g.F.Folders in
     let old = c.args.folders.now in
     told-up c.from_residual-in_err-b.result OutOfMemory
-    (IsMergingCause (F.limit old) (F.held old) (merge_texts_of c.args.words.now) (F.failure_count old) (F.failure_count c.read_draft-2.new.folders)) c.from_residual-in_err-b.ensures.1
-    (c.in_ok-draft-2.ensures.reads.asks.no_failure ∙ c.in_ok-draft.ensures.reads.asks.no_failure)
+    (IsFoldersCause (F.limit old) (F.held old) (merge_texts_of c.args.words.now) (F.failure_count old) (F.failure_count c.read_draft-2.new.folders)) c.from_residual-in_err-b.ensures.1
+    (inl (c.in_ok-draft-2.ensures.reads.asks.no_failure ∙ c.in_ok-draft.ensures.reads.asks.no_failure))
 
 pub returns-in_err-b-clause-reads : goal.returns-in_err-b-clause-reads
 returns-in_err-b-clause-reads g c = reads-done 20 _ _ _ _ (reads-then 10 10 _ _ _ _ _ c.in_ok-draft.ensures.reads c.in_ok-draft-2.ensures.reads)
@@ -97,7 +96,7 @@ returns-clause-refused g c =
     let second = subst (λ (f : Feed). HoldsFeed (F.limit old) (F.held old) asked.b f) (sym c.in_ok-b.ensures)
     (reads-back 10 _ _ _ (λ (l : ℕ) (h : Option Store) (n : ℕ). HoldsFeed l h asked.b c.in_ok-draft-2.draft) c.in_ok-draft.ensures.reads c.in_ok-draft-2.ensures.read) in
     IfErr-weaker c.merge_feeds.result _ _
-    (unmerged (F.limit old) (F.held old) asked c.in_ok-a.a c.in_ok-b.b first second (merge_request_of c.args.values.now) c.requires
+    (unmerged-by (F.limit old) (F.held old) asked c.in_ok-a.a c.in_ok-b.b first second (merge_request_of c.args.values.now) c.requires
     (F.failure_count old) (F.failure_count c.read_draft-2.new.folders) (c.in_ok-draft-2.ensures.reads.asks.no_failure ∙ c.in_ok-draft.ensures.reads.asks.no_failure))
     c.merge_feeds.ensures.refused
 

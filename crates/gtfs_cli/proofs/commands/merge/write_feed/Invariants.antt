@@ -5,7 +5,7 @@ use Rattle.gtfs_table.specs.Reading.{kept_files}
 use Rattle.gtfs_rows.specs.Views.{content_of_parts}
 use Rattle.gtfs_cli.specs.MergeParts.{ReadsAs}
 use Rattle.gtfs_cli.specs.Merges.{HoldsFiles}
-use Rattle.gtfs_cli.specs.Reads.{Asks}
+use Rattle.gtfs_cli.specs.Reads.{CallsFolders}
 use Rattle.gtfs_cli.proofs.commands.merge.write_feed.Given as goal
 
 abbrev pub invariant-loop-file : goal.invariant-loop-file
@@ -16,7 +16,7 @@ invariant-loop-file g l =
     record {
       holds : HoldsFiles (F.held old) (F.held new) l.dir (content_of_parts l.feed) (take l.file-index kept_files);
       read : All (ReadsAs (content_of_parts l.feed)) (take l.file-index kept_files);
-      asks : Asks l.file-index {T = ⊤} (record { limit = F.limit old; held = F.held old; failures = F.failure_count old; calls = F.calls old })
+      asks : CallsFolders l.file-index {T = ⊤} (record { limit = F.limit old; held = F.held old; failures = F.failure_count old; calls = F.calls old })
           (record { limit = F.limit new; held = F.held new; failures = F.failure_count new; calls = F.calls new }) (Ok tt);
       within : l.file-index ≤ 9;
     }

@@ -1,35 +1,19 @@
-use Rattle.std.proofs.Common.{◌∙◌, arith}
-use Rattle.std.specs.Prelude.{flat_map}
-use Rattle.gtfs_table.proofs.FolderFacts.{on_err-always}
-use Rattle.gtfs_merge.specs.Report.{kinds}
+use Rattle.std.proofs.Common.{ap, length, List, ℕ}
+use Rattle.gtfs_merge.specs.Report.{joined_line, kinds}
 use Rattle.gtfs_cli.specs.NamesReport.{count_line}
-use Rattle.gtfs_cli.specs.Sending.{IsSendingCause, SendsBeginning}
-use Rattle.gtfs_cli.proofs.Sequences.{item-cut, item-sent, items-sent}
-use Rattle.gtfs_cli.proofs.Endings.{told-up}
-use Rattle.gtfs_cli.proofs.FailuresTold.{sending-since}
+use Rattle.gtfs_cli.proofs.Sent.{item-failed, item-sent, items-sent}
 use Rattle.gtfs_cli.proofs.commands.names.print_joined.Goals as goal
 
 pub loop-kind-preserved : goal.loop-kind-preserved
-loop-kind-preserved g c = record {
-  sent = item-sent (count_line c.args.names.now) _ _ _ kinds c.loop-kind.kind-index _ c.loop-kind-test.true c.loop-kind.invariant.sent c.in_ok-print_count.ensures.printed;
-  grows = omega (arith, c.loop-kind.invariant.grows, c.print_count.ensures.grows);
-  no_failure = c.in_ok-print_count.ensures.no_failure ∙ c.loop-kind.invariant.no_failure;
+loop-kind-preserved g c =
+    item-sent (count_line c.args.names.now) kinds c.loop-kind.kind-index _ _ (ap (λ (ids : List (List ℕ)). joined_line _ (length ids)) c.joined.ensures) c.loop-kind-test.true _ _ _ _
+    c.loop-kind.invariant c.in_ok-print_line.ensures.sent
+
+pub returns-in_err-print_line : goal.returns-in_err-print_line
+returns-in_err-print_line g c = record {
+  sent = item-failed (count_line c.args.names.now) kinds c.loop-kind.kind-index _ _ (ap (λ (ids : List (List ℕ)). joined_line _ (length ids)) c.joined.ensures) c.loop-kind-test.true _ _ _ _
+      c.from_residual.result c.from_residual.ensures.1 c.loop-kind.invariant c.in_err-print_line.ensures.sent;
 }
 
-pub returns-clause-printed : goal.returns-clause-printed
-returns-clause-printed g c = items-sent (count_line c.args.names.now) _ _ kinds c.loop-kind.kind-index c.loop-kind-test.false c.loop-kind.invariant.sent
-
-pub returns-in_err-print_count-clause-cut_short : goal.returns-in_err-print_count-clause-cut_short
-returns-in_err-print_count-clause-cut_short g c =
-    on_err-always c.from_residual.result
-    (SendsBeginning (g.O.Out.told c.args.out.now) (g.O.Out.told c.print_count.new.out) (flat_map (count_line c.args.names.now) kinds))
-    (item-cut (count_line c.args.names.now) _ _ _ kinds c.loop-kind.kind-index _ c.loop-kind-test.true c.loop-kind.invariant.sent c.in_err-print_count.ensures.cut_short)
-
-pub returns-in_err-print_count-clause-refused : goal.returns-in_err-print_count-clause-refused
-returns-in_err-print_count-clause-refused g c =
-    let first = g.O.Out.failure_count c.args.out.now in
-    let before = g.O.Out.failure_count c.loop-kind.out in
-    let after = g.O.Out.failure_count c.print_count.new.out in
-    let r = c.in_err-print_count.field-0.0 in
-    told-up c.from_residual.result r (IsSendingCause first after) c.from_residual.ensures.1
-    (sending-since first before after c.loop-kind.invariant.no_failure r c.in_err-print_count.ensures.refused)
+pub returns : goal.returns
+returns g c = record { sent = items-sent (count_line c.args.names.now) kinds c.loop-kind.kind-index _ _ _ c.loop-kind-test.false c.loop-kind.invariant }

@@ -1,43 +1,8 @@
-use Rattle.std.proofs.Common.{◌∙◌, ◌++◌, length}
-use Rattle.gtfs_table.proofs.FolderFacts.{on_err-always}
-use Rattle.gtfs_table.proofs.StoreFacts.{on_ok-map}
-use Rattle.gtfs_merge.specs.Near.{near_line}
-use Rattle.gtfs_cli.specs.NamesReport.{ids_report}
-use Rattle.gtfs_cli.specs.Sending.{SendsBeginning}
-use Rattle.gtfs_cli.proofs.Parts.{err-then}
-use Rattle.gtfs_cli.proofs.Sequences.{both-sent, first-cut, second-cut}
-use Rattle.std.proofs.lemmas.Result.{IfErr-weaker}
-use Rattle.gtfs_cli.proofs.FailuresTold.{sending-since}
+use Rattle.gtfs_cli.proofs.Sent.{sent-both, sent-first}
 use Rattle.gtfs_cli.proofs.commands.names.print_names.Goals as goal
 
-pub returns-in_err-print_ids-clause-cut_short : goal.returns-in_err-print_ids-clause-cut_short
-returns-in_err-print_ids-clause-cut_short g c =
-    let a = g.O.Out.told c.args.out.now in
-    let b = g.O.Out.told c.print_ids.new.out in
-    let first = ids_report c.args.names.now in
-    let second = near_line c.args.near (length c.args.names.now.near) in
-    on_err-always c.from_residual.result (SendsBeginning a b (first ++ second)) (first-cut a b first second c.in_err-print_ids.ensures.cut_short)
+pub returns-in_err-print_ids : goal.returns-in_err-print_ids
+returns-in_err-print_ids g c = record { sent = sent-first _ _ _ _ _ c.from_residual.result c.from_residual.ensures.1 c.in_err-print_ids.ensures.sent }
 
-pub returns-clause-printed : goal.returns-clause-printed
-returns-clause-printed g c =
-    on_ok-map c.print_near.result _ _
-    (both-sent (g.O.Out.told c.args.out.now) (g.O.Out.told c.print_ids.new.out) (g.O.Out.told c.print_near.new.out) (ids_report c.args.names.now)
-    (near_line c.args.near (length c.args.names.now.near)) c.in_ok-print_ids.ensures.printed)
-    c.print_near.ensures.printed
-
-pub returns-clause-cut_short : goal.returns-clause-cut_short
-returns-clause-cut_short g c =
-    err-then c.print_near.result _ _
-    (second-cut (g.O.Out.told c.args.out.now) (g.O.Out.told c.print_ids.new.out) (g.O.Out.told c.print_near.new.out) (ids_report c.args.names.now)
-    (near_line c.args.near (length c.args.names.now.near)) c.in_ok-print_ids.ensures.printed)
-    c.print_near.ensures.cut_short
-
-pub returns-clause-no_failure : goal.returns-clause-no_failure
-returns-clause-no_failure g c = on_ok-map c.print_near.result _ _ (λ same. same ∙ c.in_ok-print_ids.ensures.no_failure) c.print_near.ensures.no_failure
-
-pub returns-clause-refused : goal.returns-clause-refused
-returns-clause-refused g c =
-    let first = g.O.Out.failure_count c.args.out.now in
-    let before = g.O.Out.failure_count c.print_ids.new.out in
-    let after = g.O.Out.failure_count c.print_near.new.out in
-    IfErr-weaker c.print_near.result _ _ (sending-since first before after c.in_ok-print_ids.ensures.no_failure) c.print_near.ensures.refused
+pub returns : goal.returns
+returns g c = record { sent = sent-both _ _ _ _ _ _ c.print_near.result c.in_ok-print_ids.ensures.sent c.print_near.ensures.sent }

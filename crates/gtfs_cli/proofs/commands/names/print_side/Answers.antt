@@ -1,16 +1,11 @@
-use Rattle.std.proofs.Common.{◌≡◌, ◌∙◌, ◌<◌, ℕ, List, [], Some, ap, arith, get_or, length, subst, sym}
+use Rattle.std.proofs.Common.{◌≡◌, ◌∙◌, ◌<◌, ℕ, List, [], Some, ap, arith, get_or, length, sym}
 use Rattle.std.specs.Prelude.{flat_map}
-use Rattle.std.specs.Io.KnownBytes.{Appends}
 use Rattle.std.proofs.lemmas.List.{get_or_default}
-use Rattle.gtfs_table.proofs.FolderFacts.{on_err-always}
 use Rattle.gtfs_merge.specs.Names.{AllNames, in_kind, new_id, of_side}
 use Rattle.gtfs_merge.specs.declared.kind.Kind.{Kind}
 use Rattle.gtfs_merge.specs.declared.kind.Side.{Side}
 use Rattle.gtfs_cli.specs.NamesReport.{id_line, named_line, side_lines}
-use Rattle.gtfs_cli.specs.Sending.{IsSendingCause, SendsBeginning}
-use Rattle.gtfs_cli.proofs.Sequences.{item-cut, item-sent, items-sent}
-use Rattle.gtfs_cli.proofs.Endings.{told-up}
-use Rattle.gtfs_cli.proofs.FailuresTold.{sending-since}
+use Rattle.gtfs_cli.proofs.Sent.{item-failed, item-sent, items-sent, sent-same}
 use Rattle.gtfs_cli.proofs.commands.names.print_side.Goals as goal
 
 -- the line of the id of a number
@@ -29,36 +24,24 @@ pub loop-number-preserved : goal.loop-number-preserved
 loop-number-preserved g c =
     let line = line-of c.args.names.now c.args.side c.args.kind c.loop-number.number c.ids-ids.result.now _ c.by_number-name.result.now _ c.ids-ids.ensures c.by_number-name.ensures.of_id
     (c.as_str.ensures ∙ c.index-ids-number.is) c.loop-number-test.true in
+    item-sent (id_line c.args.names.now c.args.side c.args.kind) c.ids-ids.result.now c.loop-number.number c.index-ids-number.result _ line c.loop-number-test.true _ _ _ _
+    c.loop-number.invariant c.in_ok-print_id.ensures.sent
+
+pub returns : goal.returns
+returns g c =
+    let lines = id_line c.args.names.now c.args.side c.args.kind in
     record {
-      sent = item-sent (id_line c.args.names.now c.args.side c.args.kind) _ _ _ c.ids-ids.result.now c.loop-number.number c.index-ids-number.result c.loop-number-test.true
-          c.loop-number.invariant.sent (subst (λ (t : List ℕ). Appends (g.O.Out.told c.loop-number.out) (g.O.Out.told c.print_id.new.out) t) line c.in_ok-print_id.ensures.printed);
-      grows = omega (arith, c.loop-number.invariant.grows, c.print_id.ensures.grows);
-      no_failure = c.in_ok-print_id.ensures.no_failure ∙ c.loop-number.invariant.no_failure;
+      sent = sent-same (flat_map lines c.ids-ids.result.now) (side_lines c.args.names.now c.args.side c.args.kind) _ _ _ (ap (flat_map lines) c.ids-ids.ensures)
+          (items-sent lines c.ids-ids.result.now c.loop-number.number _ _ _ c.loop-number-test.false c.loop-number.invariant);
     }
 
-pub returns-clause-printed : goal.returns-clause-printed
-returns-clause-printed g c =
-    let line = id_line c.args.names.now c.args.side c.args.kind in
-    subst (λ (t : List ℕ). Appends (g.O.Out.told c.args.out.now) (g.O.Out.told c.loop-number.out) t) (ap (flat_map line) c.ids-ids.ensures)
-    (items-sent line _ _ c.ids-ids.result.now c.loop-number.number c.loop-number-test.false c.loop-number.invariant.sent)
-
-pub returns-in_err-print_id-clause-cut_short : goal.returns-in_err-print_id-clause-cut_short
-returns-in_err-print_id-clause-cut_short g c =
+pub returns-in_err-print_id : goal.returns-in_err-print_id
+returns-in_err-print_id g c =
     let lines = id_line c.args.names.now c.args.side c.args.kind in
-    let before = g.O.Out.told c.args.out.now in
-    let after = g.O.Out.told c.print_id.new.out in
     let line = line-of c.args.names.now c.args.side c.args.kind c.loop-number.number c.ids-ids.result.now _ c.by_number-name.result.now _ c.ids-ids.ensures c.by_number-name.ensures.of_id
     (c.as_str.ensures ∙ c.index-ids-number.is) c.loop-number-test.true in
-    on_err-always c.from_residual.result (SendsBeginning before after (side_lines c.args.names.now c.args.side c.args.kind))
-    (subst (λ (t : List ℕ). SendsBeginning before after t) (ap (flat_map lines) c.ids-ids.ensures)
-    (item-cut lines _ _ _ c.ids-ids.result.now c.loop-number.number c.index-ids-number.result c.loop-number-test.true c.loop-number.invariant.sent
-    (subst (λ (t : List ℕ). SendsBeginning (g.O.Out.told c.loop-number.out) after t) line c.in_err-print_id.ensures.cut_short)))
-
-pub returns-in_err-print_id-clause-refused : goal.returns-in_err-print_id-clause-refused
-returns-in_err-print_id-clause-refused g c =
-    let first = g.O.Out.failure_count c.args.out.now in
-    let before = g.O.Out.failure_count c.loop-number.out in
-    let after = g.O.Out.failure_count c.print_id.new.out in
-    let r = c.in_err-print_id.field-0.0 in
-    told-up c.from_residual.result r (IsSendingCause first after) c.from_residual.ensures.1
-    (sending-since first before after c.loop-number.invariant.no_failure r c.in_err-print_id.ensures.refused)
+    record {
+      sent = sent-same (flat_map lines c.ids-ids.result.now) (side_lines c.args.names.now c.args.side c.args.kind) _ _ _ (ap (flat_map lines) c.ids-ids.ensures)
+          (item-failed lines c.ids-ids.result.now c.loop-number.number c.index-ids-number.result _ line c.loop-number-test.true _ _ _ _
+          c.from_residual.result c.from_residual.ensures.1 c.loop-number.invariant c.in_err-print_id.ensures.sent);
+    }

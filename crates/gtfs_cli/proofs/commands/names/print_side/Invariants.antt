@@ -1,12 +1,10 @@
-use Rattle.std.proofs.Common.{◌≡◌, ◌≤◌, take}
+use Rattle.std.proofs.Common.{take}
 use Rattle.std.specs.Prelude.{flat_map}
-use Rattle.std.specs.Io.KnownBytes.{Appends}
 use Rattle.gtfs_cli.specs.NamesReport.{id_line}
+use Rattle.gtfs_cli.proofs.Sent.{output, SentWhole}
 use Rattle.gtfs_cli.proofs.commands.names.print_side.Given as goal
 
 abbrev pub invariant-loop-number : goal.invariant-loop-number
-invariant-loop-number g l = record {
-  sent : Appends (g.O.Out.told l.initial.out) (g.O.Out.told l.out) (flat_map (id_line l.names l.side l.kind) (take l.number l.ids));
-  grows : g.O.Out.failure_count l.initial.out ≤ g.O.Out.failure_count l.out;
-  no_failure : g.O.Out.failure_count l.out ≡ g.O.Out.failure_count l.initial.out;
-}
+invariant-loop-number g l =
+    SentWhole (flat_map (id_line l.names l.side l.kind) (take l.number l.ids)) (output (g.O.Out.told l.initial.out) (g.O.Out.failure_count l.initial.out))
+    (output (g.O.Out.told l.out) (g.O.Out.failure_count l.out))

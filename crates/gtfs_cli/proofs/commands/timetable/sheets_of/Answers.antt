@@ -9,5 +9,5 @@ pub returns-in-Ok-clause-known : goal.returns-in-Ok-clause-known
 returns-in-Ok-clause-known c = known-route (content_of_parts c.args.feed.now) c.args.route.now (λ none. cc (c.in-Ok.ensures.unknown.1 none))
 
 pub returns-in-Err-UnknownRoute-clause-refused : goal.returns-in-Err-UnknownRoute-clause-refused
-returns-in-Err-UnknownRoute-clause-refused c = λ count.
+returns-in-Err-UnknownRoute-clause-refused c =
     c.in-Err-UnknownRoute.ensures.unknown.0 (ap (λ (f : TableFault). Err f) c.in-Err-UnknownRoute.field-0-is)
