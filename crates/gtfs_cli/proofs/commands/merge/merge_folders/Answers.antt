@@ -8,9 +8,9 @@ use Rattle.gtfs_cli.specs.MergeParts.{merge_request_of}
 use Rattle.gtfs_cli.specs.Merges.{IsFoldersCause}
 use Rattle.gtfs_cli.specs.Refusals.{IsReadingCause}
 use Rattle.gtfs_cli.specs.declared.commands.refusal.Refusal.TheVariants.{OutOfMemory}
+use Rattle.gtfs_cli.proofs.FoldersRead.{has-passing}
 use Rattle.gtfs_cli.proofs.MergeValues.{cutoff-day, near-bound}
 use Rattle.gtfs_cli.proofs.ReadsThen.{reads-back, reads-done, reads-then, reads-up, told-up}
-use Rattle.gtfs_cli.proofs.BoardParts.{has-passing}
 use Rattle.gtfs_cli.proofs.Unmerged.{is-merged, unmerged-by}
 use Rattle.gtfs_cli.proofs.commands.merge.merge_folders.Goals as goal
 
