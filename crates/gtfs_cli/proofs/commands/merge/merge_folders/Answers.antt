@@ -30,9 +30,6 @@ returns-in_err-draft-clause-refused g c =
     told-up c.from_residual.result r (IsFoldersCause (F.limit old) (F.held old) (merge_texts_of c.args.words.now) (F.failure_count old) (F.failure_count c.read_draft.new.folders))
     c.from_residual.ensures.1 (inl c.in_err-draft.ensures.refused)
 
-pub returns-in_err-draft-clause-reads : goal.returns-in_err-draft-clause-reads
-returns-in_err-draft-clause-reads g c = reads-up 10 20 _ _ c.from_residual.result c.in_err-draft.field-0.0 (omega arith) c.from_residual.ensures.1 c.in_err-draft.ensures.reads
-
 pub returns-in_err-a-clause-refused : goal.returns-in_err-a-clause-refused
 returns-in_err-a-clause-refused g c =
     let F = g.F.Folders in
