@@ -13,7 +13,7 @@ use Rattle.gtfs_commands.specs.Words.{BoardTexts}
 use Rattle.gtfs_cli.specs.BoardSetting.{Setting}
 use Rattle.gtfs_cli.specs.Boards.{board_judges, request_of, AreValues, GoesOut, HoldsFeed, IsBoardText, IsOpeningCause, IsStopCause, IsTextOf, ListsBoard}
 use Rattle.gtfs_cli.specs.Failures.{FailedNowhere}
-use Rattle.gtfs_cli.specs.HeldFiles.{HoldsPassing, HoldsZone}
+use Rattle.gtfs_cli.specs.HeldFiles.{HoldsZone}
 use Rattle.gtfs_cli.specs.OptionValues.{first_bad, IsRequest, Request}
 use Rattle.gtfs_cli.specs.Plan.{failures_of, IsRefusedIn}
 use Rattle.gtfs_cli.specs.Seen.{Devices, Output}
@@ -21,14 +21,12 @@ use Rattle.gtfs_cli.specs.Sending.{or_none, text_left, IsSendingCause, PrintsTex
 use Rattle.gtfs_cli.specs.declared.commands.refusal.Refusal.{Refusal}
 use Rattle.gtfs_cli.specs.declared.commands.refusal.Refusal.TheVariants.{UnknownStop, UntilBeforeFrom, OutputFailed, OutOfMemory}
 use Rattle.gtfs_cli.specs.declared.commands.values.Values.{Values}
+pub use Rattle.gtfs_cli.proofs.FoldersRead.{has-passing}
 use Rattle.gtfs_cli.proofs.Plans.{as-it-is, no-cause, or-none, prints-as}
 
 -- no value is bad
 pub none-bad : (asked : BoardTexts) (r : Request) → IsRequest asked r → first_bad asked ≡ None
 none-bad asked r is = rw (is.from, is.until, is.limit, is.after) refl
-
-pub has-passing : (limit : ℕ) (held : Option Store) (dir : List ℕ) (feed : Feed) → HoldsFeed limit held dir feed → HoldsPassing limit held dir
-has-passing limit held dir feed h = (h.dataset, h.holds, h.is_feed.0)
 
 -- ---- the text of a page, with nothing before it
 
