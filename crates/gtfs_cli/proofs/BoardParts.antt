@@ -18,9 +18,9 @@ use Rattle.gtfs_cli.specs.HeldFiles.{HoldsZone}
 use Rattle.gtfs_cli.specs.OptionValues.{first_bad, IsRequest, Request}
 use Rattle.gtfs_cli.specs.Plan.{IsRefusedIn}
 use Rattle.gtfs_cli.specs.Seen.{Output}
-use Rattle.gtfs_cli.specs.Sending.{or_none, text_left, IsSendingCause, PrintsText, SendsSome}
+use Rattle.gtfs_cli.specs.Sending.{or_none, IsSendingCause, PrintsText}
 use Rattle.gtfs_cli.specs.declared.commands.refusal.Refusal.{Refusal}
-use Rattle.gtfs_cli.specs.declared.commands.refusal.Refusal.TheVariants.{UnknownStop, UntilBeforeFrom, OutputFailed, OutOfMemory}
+use Rattle.gtfs_cli.specs.declared.commands.refusal.Refusal.TheVariants.{UnknownStop, UntilBeforeFrom, OutOfMemory}
 use Rattle.gtfs_cli.specs.declared.commands.values.Values.{Values}
 pub use Rattle.gtfs_cli.proofs.FoldersRead.{has-passing}
 use Rattle.gtfs_cli.proofs.Plans.{as-it-is, no-cause, or-none, prints-as}

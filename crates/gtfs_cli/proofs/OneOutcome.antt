@@ -1,5 +1,5 @@
 -- A command has one outcome where its devices work and memory suffices, and ends with it.
-use Rattle.std.proofs.Common.{◌≡◌, ◌≢◌, ◌⊎◌, ◌∙◌, ap, sym, refl, subst, inl, inr, ℕ, Bool, List, [], Option, Some, None, Result, Ok, Err, append-nil}
+use Rattle.std.proofs.Common.{◌≡◌, ◌≢◌, ◌⊎◌, ◌∙◌, ap, sym, refl, subst, inl, inr, ℕ, Bool, List, [], Option, Result, Ok, Err}
 use Rattle.std.specs.Prelude.{cond}
 use Rattle.std.specs.Io.KnownBytes.{Appends, Keeps}
 use Rattle.gtfs_devices.specs.Folder.{Store}

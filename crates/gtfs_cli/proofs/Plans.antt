@@ -10,7 +10,7 @@ use Rattle.gtfs_cli.specs.Judging.{Judged}
 use Rattle.gtfs_cli.specs.Plan.{answer_of, passed, prints, Ends, IsRefusedIn, Plan}
 use Rattle.gtfs_cli.specs.Reads.{CallsFolders}
 use Rattle.gtfs_cli.specs.Refusals.{TellsFolders, TellsOutput}
-use Rattle.gtfs_cli.specs.Seen.{Device, Devices, Output}
+use Rattle.gtfs_cli.specs.Seen.{Device, Output}
 use Rattle.gtfs_cli.specs.Sending.{or_none, text_left, Begins, IsSendingCause, IsSent, PrintsText, SendsSome}
 use Rattle.gtfs_cli.specs.declared.commands.refusal.Refusal.{Refusal}
 use Rattle.gtfs_cli.specs.declared.commands.refusal.Refusal.TheVariants.{OutputFailed, OutOfMemory}

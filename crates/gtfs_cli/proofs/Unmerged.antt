@@ -1,6 +1,5 @@
 -- Why two folders are not merged, and what is left then.
 use Rattle.std.proofs.Common.{◌≡◌, ◌∙◌, ap, refl, subst, ℕ, ◌<◌, length, ◌⊎◌, inl, inr, true, false, List, [], ◌++◌, Option, None, Result, Ok, Err, sym}
-use Rattle.gtfs_devices.specs.Device.{Rises}
 use Rattle.gtfs_devices.specs.Folder.{Store}
 use Rattle.gtfs_table.specs.Reading.{kept_files}
 use Rattle.gtfs_rows.specs.Content.{Content}
@@ -16,13 +15,13 @@ use Rattle.gtfs_cli.specs.Boards.{HoldsFeed}
 use Rattle.gtfs_cli.specs.Failures.{FailedNowhere, Failures}
 use Rattle.gtfs_cli.specs.MergeOptions.{first_bad_merge, IsMergeRequest, MergeRequest}
 use Rattle.gtfs_cli.specs.MergeParts.{HoldsMerge}
-use Rattle.gtfs_cli.specs.Merges.{file_limit, merge_judges, merge_of, merge_plan, report_for, BeginsReport, CanMerge, HoldsFiles, IsFolderMerge, IsFoldersCause, IsMerged, IsMergeFault, IsMergingCause, IsWritingCause, IsWritingEnd, IsWritten, MergeLeaves, MergeSetting, ReadsAgain, StopsAtOne}
+use Rattle.gtfs_cli.specs.Merges.{file_limit, merge_judges, merge_of, merge_plan, report_for, HoldsFiles, IsFolderMerge, IsFoldersCause, IsMerged, IsMergeFault, IsMergingCause, IsWritingCause, IsWritingEnd, MergeLeaves, MergeSetting, ReadsAgain}
 use Rattle.gtfs_cli.specs.NamesReport.{names_report}
 use Rattle.gtfs_cli.specs.Plan.{answer_of, Ends, IsRefusedIn}
 use Rattle.gtfs_cli.specs.Reads.{CallsFolders}
 use Rattle.gtfs_cli.specs.Refusals.{IsReadingCause}
 use Rattle.gtfs_cli.specs.Seen.{Device, Output}
-use Rattle.gtfs_cli.specs.Sending.{Begins, IsSendingCause, IsSent}
+use Rattle.gtfs_cli.specs.Sending.{IsSendingCause, IsSent}
 use Rattle.gtfs_cli.specs.declared.commands.refusal.Refusal.{Refusal}
 use Rattle.gtfs_cli.specs.declared.commands.refusal.Refusal.TheVariants.{ZonesDiffer, MergeTooLarge, Unwritable, OutputFailed, OutOfMemory}
 use Rattle.gtfs_cli.proofs.FailuresTold.{sending-told}

@@ -1,5 +1,5 @@
 -- How a run ends whose words `clap` does not take.
-use Rattle.std.proofs.Common.{◌≡◌, ◌∙◌, ◌≤◌, ℕ, Bool, List, [], Option, Result, Ok, Err, None, Some, inl, inr, refl, sym, ap, subst, take, true, false, append-nil}
+use Rattle.std.proofs.Common.{◌≡◌, ◌≤◌, ℕ, Bool, List, [], Option, Result, Ok, Err, Some, inl, inr, refl, sym, subst, take, true, false}
 use Rattle.std.specs.Prelude.{IfOk, IsErrAnd}
 use Rattle.std.specs.Io.KnownBytes.{Appends, Keeps}
 use Rattle.clap.specs.Words.{Text, takes}

@@ -1,5 +1,4 @@
-use Rattle.std.proofs.Common.{List, inl, inr, refl, subst}
-use Rattle.clap.specs.Words.{Text}
+use Rattle.std.proofs.Common.{inl, inr, refl, subst}
 use Rattle.gtfs_commands.specs.Words.{IsFaultOf}
 use Rattle.gtfs_commands.specs.declared.fault.WordsFault.{WordsFault}
 use Rattle.gtfs_commands.specs.declared.fault.WordsFault.TheVariants.{Help, Version}

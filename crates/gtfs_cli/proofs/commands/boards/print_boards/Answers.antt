@@ -1,4 +1,4 @@
-use Rattle.std.proofs.Common.{◌∙◌, Err, inl, inr, refl, sym, subst, arith}
+use Rattle.std.proofs.Common.{◌∙◌, inl, inr, sym, subst, arith}
 use Rattle.gtfs_commands.specs.Words.{boards_texts_of}
 use Rattle.gtfs_cli.specs.FileRead.{IsPathCause, IsZoneCause}
 use Rattle.gtfs_cli.specs.HeldFiles.{HoldsBytes, HoldsZone}

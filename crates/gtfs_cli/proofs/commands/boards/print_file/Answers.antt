@@ -3,8 +3,7 @@ use Rattle.std.specs.Str.Lines.{lines}
 use Rattle.gtfs_days.specs.Zone.{zone_origin}
 use Rattle.gtfs_rows.specs.Views.{content_of_parts}
 use Rattle.gtfs_cli.specs.ManyBoards.{AreAllBoards, BeginsBoard, BeginsWhole, IsRequestsFault, StopsInAll}
-use Rattle.gtfs_cli.specs.Options.{times_of}
-use Rattle.gtfs_cli.specs.Requests.{numbered_from, requests_in, requests_of, StopRequest}
+use Rattle.gtfs_cli.specs.Requests.{numbered_from, requests_in, StopRequest}
 use Rattle.gtfs_cli.specs.Sending.{or_none, Output, PrintsText}
 use Rattle.gtfs_cli.specs.declared.commands.request_fault.RequestFault.{RequestFault}
 use Rattle.gtfs_cli.specs.declared.commands.refusal.Refusal.TheVariants.{OutOfMemory, Unreadable}

@@ -5,7 +5,7 @@ use Rattle.gtfs_rows.specs.declared.parts.Parts.{Parts as Feed}
 use Rattle.gtfs_cli.specs.ManyBoards.{AreAllBoards, BeginsBoard, BeginsWhole, IsRequestsFault, StopsInAll}
 use Rattle.gtfs_cli.specs.Sending.{or_none, Output, PrintsText}
 use Rattle.gtfs_cli.specs.declared.commands.refusal.Refusal.TheVariants.{Line, OutOfMemory}
-use Rattle.gtfs_cli.proofs.Plans.{as-it-is, no-cause, not-failed, prints-as, prints-refused}
+use Rattle.gtfs_cli.proofs.Plans.{no-cause, not-failed, prints-as, prints-refused}
 use Rattle.gtfs_cli.proofs.RequestLines.{asked_from, refused_by}
 use Rattle.gtfs_cli.proofs.commands.boards.print_lines.Goals as goal
 

@@ -1,4 +1,4 @@
-use Rattle.std.proofs.Common.{Bool, ◌∙◌, Err, Option, inl, inr, refl, subst, sym, arith}
+use Rattle.std.proofs.Common.{Bool, Err, Option, inl, refl, subst, arith}
 use Rattle.gtfs_devices.specs.Folder.{Store}
 use Rattle.gtfs_table.specs.Reading.{kept_files}
 use Rattle.gtfs_rows.specs.Views.{content_of_parts}
