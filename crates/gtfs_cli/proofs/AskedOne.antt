@@ -1,6 +1,6 @@
 -- Words ask for one thing: for a command with its texts, or for none that `clap` takes.
-use Rattle.std.proofs.Common.{◌≡◌, ◌∙◌, ap, refl, sym, subst, true, false, true≢false, Bool, bytes_eq, inl, inr, List, Option, Some, None, codes}
-use Rattle.std.specs.Prelude.{IsSome}
+use Rattle.std.proofs.Common.{◌≡◌, ◌∙◌, ap, refl, sym, subst, true, false, true≢false, Bool, bytes_eq, inl, inr, List, Option, Some, None, codes, Result}
+use Rattle.std.specs.Prelude.{⊤, IsSome}
 use Rattle.clap.specs.Words.{Row, Text, first_of, subcommand_of, takes}
 use Rattle.gtfs_commands.specs.Asked.{is_flagged, ForBoard, ForBoards, ForCheck, ForMerge, ForTimetable, HasBoard, HasBoards, HasMerge, HasTimetable, GivesBoard, GivesBoards, GivesMerge, GivesTimetable, IsWhole}
 use Rattle.gtfs_commands.specs.Words.{gtfs_app, boards_texts_of, merge_texts_of, texts_of, timetable_texts_of, BoardTexts, BoardsTexts, IsCommandOf, MergeTexts, TimetableTexts}
@@ -8,6 +8,9 @@ use Rattle.gtfs_commands.specs.declared.command.Command.{Command}
 use Rattle.gtfs_commands.specs.declared.command.Command.TheVariants as commands
 use Rattle.gtfs_commands.proofs.GtfsWords.{whole}
 use Rattle.gtfs_commands.proofs.OneAsked.{same_board, same_boards, same_check, same_merge, same_timetable}
+use Rattle.gtfs_cli.specs.Plan.{Ends, Plan}
+use Rattle.gtfs_cli.specs.Seen.{Devices}
+use Rattle.gtfs_cli.specs.declared.commands.refusal.Refusal.{Refusal}
 use Rattle.gtfs_cli.specs.Asked.{Asked, Asks, Board, Boards, Check, Merge, Timetable, Untaken}
 
 -- ---- they ask for something
@@ -117,11 +120,11 @@ name_of (Merge texts) = codes "merge"
 name_of Untaken = codes ""
 
 taken-by : (words : List Text) (x : Asked) → IsTaken x → Asks words x → takes gtfs_app words ≡ true
-taken-by words (Check x) tt asks = asks.taken
-taken-by words (Board x) tt asks = asks.taken
-taken-by words (Boards x) tt asks = asks.taken
-taken-by words (Timetable x) tt asks = asks.taken
-taken-by words (Merge x) tt asks = asks.taken
+taken-by words (Check x) has asks = asks.taken
+taken-by words (Board x) has asks = asks.taken
+taken-by words (Boards x) has asks = asks.taken
+taken-by words (Timetable x) has asks = asks.taken
+taken-by words (Merge x) has asks = asks.taken
 taken-by words Untaken none asks = absurd none
 
 abbrev IsNamed : Option (Text × List Row) → Text → Type 0
@@ -149,11 +152,11 @@ merge-named None texts asks = absurd asks
 merge-named (Some found) texts asks = asks.0
 
 named : (words : List Text) (x : Asked) → IsTaken x → Asks words x → IsNamed (subcommand_of gtfs_app words) (name_of x)
-named words (Check x) tt asks = check-named (subcommand_of gtfs_app words) x asks.asks
-named words (Board x) tt asks = board-named (subcommand_of gtfs_app words) x asks.asks
-named words (Boards x) tt asks = boards-named (subcommand_of gtfs_app words) x asks.asks
-named words (Timetable x) tt asks = timetable-named (subcommand_of gtfs_app words) x asks.asks
-named words (Merge x) tt asks = merge-named (subcommand_of gtfs_app words) x asks.asks
+named words (Check x) has asks = check-named (subcommand_of gtfs_app words) x asks.asks
+named words (Board x) has asks = board-named (subcommand_of gtfs_app words) x asks.asks
+named words (Boards x) has asks = boards-named (subcommand_of gtfs_app words) x asks.asks
+named words (Timetable x) has asks = timetable-named (subcommand_of gtfs_app words) x asks.asks
+named words (Merge x) has asks = merge-named (subcommand_of gtfs_app words) x asks.asks
 named words Untaken none asks = absurd none
 
 not-both : (found : Option (Text × List Row)) (x y : Text) → bytes_eq x x ≡ true → bytes_eq x y ≡ false → IsNamed found x → IsNamed found y → ⊥
@@ -230,6 +233,12 @@ pub as-asked : (words : List Text) (x : Command) → takes gtfs_app words ≡ tr
     → (asked : Asked) → Asks words asked → P asked
 as-asked words x taken is P h asked asks =
     subst P (one-asked words (asked_by x) asked (asks-by words taken (asked_by x) (for-command (subcommand_of gtfs_app words) x is)) asks) h
+
+-- what a command ends with is what the words ask for
+pub ends-asked : (plan : Asked → Plan) (words : List Text) (x command : Command) → x ≡ command → takes gtfs_app words ≡ true → IsCommandOf (subcommand_of gtfs_app words) x
+    → (a b : Devices) (r s : Result Bool Refusal) → r ≡ s → Ends (plan (asked_by command)) a b s → (asked : Asked) → Asks words asked → Ends (plan asked) a b r
+ends-asked plan words x command is taken read a b r s same ends = as-asked words x taken read (λ asked. Ends (plan asked) a b r)
+    (subst (λ (y : Command). Ends (plan (asked_by y)) a b r) (sym is) (subst (λ (e : Result Bool Refusal). Ends (plan (asked_by command)) a b e) (sym same) ends))
 
 -- the same of words that are not taken
 pub as-untaken : (words : List Text) → takes gtfs_app words ≡ false → (P : Asked → Type 0) → P Untaken → (asked : Asked) → Asks words asked → P asked

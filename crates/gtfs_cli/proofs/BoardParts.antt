@@ -1,5 +1,6 @@
 -- From the parts of a board to what is printed of the folders that the words name.
-use Rattle.std.proofs.Common.{◌≡◌, ◌⊎◌, ◌++◌, ⊤, ℕ, true, false, List, [], Option, None, Some, Result, inl, inr, refl, sym, subst}
+use Rattle.std.proofs.Common.{◌≡◌, ◌⊎◌, ◌++◌, ℕ, true, false, List, [], Option, None, Some, Result, inl, inr, refl, sym, subst}
+use Rattle.std.specs.Prelude.{⊤}
 use Rattle.std.specs.Io.KnownBytes.{Appends}
 use Rattle.gtfs_days.specs.declared.zone.Zone.{Zone}
 use Rattle.gtfs_devices.specs.Folder.{Store}
@@ -12,32 +13,30 @@ use Rattle.gtfs_board.specs.Lines.{Listed}
 use Rattle.gtfs_commands.specs.Words.{BoardTexts}
 use Rattle.gtfs_cli.specs.BoardSetting.{Setting}
 use Rattle.gtfs_cli.specs.Boards.{board_judges, request_of, AreValues, GoesOut, HoldsFeed, IsBoardText, IsOpeningCause, IsStopCause, IsTextOf, ListsBoard}
-use Rattle.gtfs_cli.specs.Failures.{FailedNowhere}
-use Rattle.gtfs_cli.specs.HeldFiles.{HoldsPassing, HoldsZone}
+use Rattle.gtfs_cli.specs.Failures.{FailedNowhere, Failures}
+use Rattle.gtfs_cli.specs.HeldFiles.{HoldsZone}
 use Rattle.gtfs_cli.specs.OptionValues.{first_bad, IsRequest, Request}
-use Rattle.gtfs_cli.specs.Plan.{failures_of, IsRefusedIn}
-use Rattle.gtfs_cli.specs.Seen.{Devices, Output}
-use Rattle.gtfs_cli.specs.Sending.{or_none, text_left, IsSendingCause, PrintsText, SendsSome}
+use Rattle.gtfs_cli.specs.Plan.{IsRefusedIn}
+use Rattle.gtfs_cli.specs.Seen.{Output}
+use Rattle.gtfs_cli.specs.Sending.{or_none, IsSendingCause, PrintsText}
 use Rattle.gtfs_cli.specs.declared.commands.refusal.Refusal.{Refusal}
-use Rattle.gtfs_cli.specs.declared.commands.refusal.Refusal.TheVariants.{UnknownStop, UntilBeforeFrom, OutputFailed, OutOfMemory}
+use Rattle.gtfs_cli.specs.declared.commands.refusal.Refusal.TheVariants.{UnknownStop, UntilBeforeFrom, OutOfMemory}
 use Rattle.gtfs_cli.specs.declared.commands.values.Values.{Values}
+pub use Rattle.gtfs_cli.proofs.FoldersRead.{has-passing}
 use Rattle.gtfs_cli.proofs.Plans.{as-it-is, no-cause, or-none, prints-as}
 
 -- no value is bad
 pub none-bad : (asked : BoardTexts) (r : Request) → IsRequest asked r → first_bad asked ≡ None
 none-bad asked r is = rw (is.from, is.until, is.limit, is.after) refl
 
-pub has-passing : (limit : ℕ) (held : Option Store) (dir : List ℕ) (feed : Feed) → HoldsFeed limit held dir feed → HoldsPassing limit held dir
-has-passing limit held dir feed h = (h.dataset, h.holds, h.is_feed.0)
-
 -- ---- the text of a page, with nothing before it
 
-module _ (f : Content) (z : Zone) (stop : List ℕ) (r : Request) (ds left : List Listed) (n : ℕ) (lists : ListsBoard f z stop r ds) (a b : Option (List ℕ)) where
+module _ (f : Content) (z : Zone) (stop : List ℕ) (r : Request) (limit : ℕ) (same : r.limit ≡ limit) (ds left : List Listed) (n : ℕ) (lists : ListsBoard f z stop r ds) (a b : Option (List ℕ)) where
   alone : (others : List Listed) (count : ℕ) (w : AreWritten z ds others a b count) → AreWritten z ds others (Some []) (Some w.text) count
   alone others count w = record { shown = w.shown; text = w.text; split = w.split; count = w.count; are_lines = w.are_lines; out = refl }
 
-  pub page-sent : IsPage z r.limit ds left a b n → (text : List ℕ) × IsTextOf IsPage f z stop r text × Appends a b text
-  page-sent page = (
+  pub page-sent : IsPage z limit ds left a b n → (text : List ℕ) × IsTextOf IsPage f z stop r text × Appends a b text
+  page-sent p = let page = subst (λ (m : ℕ). IsPage z m ds left a b n) (sym same) p in (
     page.written.text,
     record {
       departures = ds;
@@ -49,8 +48,8 @@ module _ (f : Content) (z : Zone) (stop : List ℕ) (r : Request) (ds left : Lis
     page.written.out,
   )
 
-  pub page-cut : IsCutShort z r.limit ds left a b n → (text : List ℕ) × IsTextOf IsCutShort f z stop r text × Appends a b text
-  page-cut w = (
+  pub page-cut : IsCutShort z limit ds left a b n → (text : List ℕ) × IsTextOf IsCutShort f z stop r text × Appends a b text
+  page-cut p = let w = subst (λ (m : ℕ). IsCutShort z m ds left a b n) (sym same) p in (
     w.text ++ w.sent,
     record {
       departures = ds;
@@ -77,8 +76,8 @@ module _ (f : Content) (z : Zone) (stop : List ℕ) (r : Request) (ds left : Lis
     w.out,
   )
 
-  pub page-stopped : IsStopped z r.limit ds left a b n → (text : List ℕ) × IsTextOf IsStopped f z stop r text × Appends a b text
-  page-stopped w = (
+  pub page-stopped : IsStopped z limit ds left a b n → (text : List ℕ) × IsTextOf IsStopped f z stop r text × Appends a b text
+  page-stopped p = let w = subst (λ (m : ℕ). IsStopped z m ds left a b n) (sym same) p in (
     w.written.text,
     record {
       departures = ds;
@@ -120,13 +119,13 @@ module _ (limit : ℕ) (held : Option Store) (asked : BoardTexts) (feed : Feed) 
   pub text-of : (Out : GoesOut) (text : List ℕ) → IsTextOf Out (content_of_parts feed) z asked.stop (request_of v) text → IsBoardText Out limit held asked text
   text-of Out text is = (setting, subst (λ (f : Content). IsTextOf Out f z asked.stop (request_of v) text) h.is_feed.1 is)
 
-  module _ (x y : Devices) where
+  module _ (x y : Failures) where
     -- all that is judged before the stop was found good
-    after : (e : Refusal) → IsStopCause limit held asked e ⊎ (⊤ × IsSendingCause x.output.failures y.output.failures e) → IsRefusedIn (board_judges limit held asked) x y e
+    after : (e : Refusal) → IsStopCause limit held asked e ⊎ (⊤ × IsSendingCause x.output y.output e) → IsRefusedIn (board_judges limit held asked) x y e
     after e cause = inl (inr (none-bad asked (request_of v) are.request, inr (has-passing limit held asked.dir feed h, inr ((z, hz), cause))))
 
-    pub cause-of : (e : Refusal) → (e ≡ OutOfMemory → FailedNowhere (failures_of x) (failures_of y))
-        → IsOpeningCause (content_of_parts feed) z asked.stop (request_of v) e ⊎ IsSendingCause x.output.failures y.output.failures e
+    pub cause-of : (e : Refusal) → (e ≡ OutOfMemory → FailedNowhere x y)
+        → IsOpeningCause (content_of_parts feed) z asked.stop (request_of v) e ⊎ IsSendingCause x.output y.output e
         → IsRefusedIn (board_judges limit held asked) x y e
     cause-of UnknownStop nowhere (inl c) = after UnknownStop (inl (setting, subst (λ (f : Content). is_stop f asked.stop ≡ false) h.is_feed.1 c))
     cause-of UntilBeforeFrom nowhere (inl c) =

@@ -28,10 +28,6 @@ sending-told before after OutputFailed h = tt
 sending-told before after OutOfMemory h = h
 sending-told before after _ h = absurd h
 
--- none had failed before
-pub sending-since : (first before after : ℕ) → before ≡ first → (r : Refusal) → IsSendingCause before after r → IsSendingCause first after r
-sending-since first before after same r h = subst (λ (n : ℕ). IsSendingCause n after r) same h
-
 -- ---- calls that are refused
 
 -- what is so of each refusal

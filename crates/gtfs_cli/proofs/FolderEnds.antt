@@ -12,11 +12,11 @@ use Rattle.gtfs_table.specs.declared.file.File.TheVariants as file
 use Rattle.gtfs_columns.specs.Problems.{Passes}
 use Rattle.gtfs_cli.specs.HeldFiles.{HoldsErrors, HoldsKeptFile, HoldsPassing, HoldsTables, LacksFeed}
 use Rattle.gtfs_cli.specs.Judging.{feed, tables}
-use Rattle.gtfs_cli.specs.Messages.{line_of, message}
+use Rattle.gtfs_cli.specs.Messages.{line_of}
 use Rattle.gtfs_cli.specs.Outcomes.{IsPlainRefusal}
-use Rattle.gtfs_cli.specs.Refusals.{status_of, IsReadingCause, IsTablesCause}
+use Rattle.gtfs_cli.specs.Refusals.{IsReadingCause, IsTablesCause}
 use Rattle.gtfs_cli.specs.declared.commands.refusal.Refusal.{Refusal}
-use Rattle.gtfs_cli.specs.declared.commands.refusal.Refusal.TheVariants.{NotThere, Unreadable, OverLimit, HasErrors, OutputFailed, OutOfMemory}
+use Rattle.gtfs_cli.specs.declared.commands.refusal.Refusal.TheVariants.{NotThere, Unreadable, OverLimit, HasErrors, OutOfMemory}
 use Rattle.gtfs_cli.proofs.OneRefusal.{alike, line-at, Alike, Excludes, One, Quiet, Says}
 
 -- ---- what folders hold
@@ -116,12 +116,12 @@ module _ (limit : ℕ) (store : Store) (dir : List ℕ) where
     where
       by : Errors r ⊎ (Lacking r ⊎ Over r) → Errors s ⊎ (Lacking s ⊎ Over s) → Alike r s
       by (inl a) (inl b) = alike r s (line_of dir (codes " has errors")) 1 a.1 b.1
-      by (inl a) (inr b) = absurd (no-reason a.0.0 a.0.1.0 s b)
-      by (inr a) (inl b) = absurd (no-reason b.0.0 b.0.1.0 r a)
+      by (inl a) (inr b) = absurd (no-reason a.0.0 a.0.1 s b)
+      by (inr a) (inl b) = absurd (no-reason b.0.0 b.0.1 r a)
       by (inr a) (inr b) = one-reason r s a b
 
   pub excludes-feed : Excludes (HoldsPassing limit (Some store) dir) (feed limit (Some store) dir)
-  excludes-feed holds r h = elim (reason-of-feed r h) [ inl a ↦ not_errors holds.0 holds.1.0 holds.1.1 a.0 | inr a ↦ no-reason holds.0 holds.1.0 r a ]
+  excludes-feed holds r h = elim (reason-of-feed r h) [ inl a ↦ not_errors holds.0 holds.1 holds.2 a.0 | inr a ↦ no-reason holds.0 holds.1 r a ]
 
   pub quiet-feed : Quiet (feed limit (Some store) dir)
   quiet-feed h = h.cause

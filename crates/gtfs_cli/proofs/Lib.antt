@@ -35,7 +35,6 @@ mod ManyBoards
 mod OneBoards
 mod Plans
 mod BoardParts
-mod ReadsThen
 mod OneRefusal
 mod OneOutcome
 mod OneCheck

@@ -1,6 +1,6 @@
 -- What was printed of the boards of a file of requests, and why there are none.
-use Rattle.std.proofs.Common.{◌≡◌, ◌⊎◌, ⊤, ℕ, List, Option, Result, Err, inl, inr, subst}
-use Rattle.std.specs.Prelude.{IsUtf8}
+use Rattle.std.proofs.Common.{◌≡◌, ◌⊎◌, ℕ, List, Option, Result, Err, inl, inr, subst}
+use Rattle.std.specs.Prelude.{⊤, IsUtf8}
 use Rattle.gtfs_days.specs.Zone.{zone_origin}
 use Rattle.gtfs_days.specs.declared.zone.Zone.{Zone}
 use Rattle.gtfs_devices.specs.Folder.{Store}
@@ -13,11 +13,10 @@ use Rattle.gtfs_cli.specs.Boards.{HoldsFeed}
 use Rattle.gtfs_cli.specs.Sending.{IsSendingCause}
 use Rattle.gtfs_cli.specs.ManyBoards.{boards_judges, of_utf8, AreAllBoards, BoardsSetting, IsBoardsPart, IsBoardsText, IsFileFault, IsLinesCause, IsRequestsFault, StopsInAll}
 use Rattle.gtfs_cli.specs.Options.{times_of}
-use Rattle.gtfs_cli.specs.Plan.{failures_of, IsRefusedIn}
-use Rattle.gtfs_cli.specs.Seen.{Devices}
+use Rattle.gtfs_cli.specs.Plan.{IsRefusedIn}
 use Rattle.gtfs_cli.specs.Requests.{requests_of, StopRequest}
 use Rattle.gtfs_cli.specs.HeldFiles.{HoldsBytes, HoldsZone}
-use Rattle.gtfs_cli.specs.Failures.{FailedNowhere}
+use Rattle.gtfs_cli.specs.Failures.{FailedNowhere, Failures}
 use Rattle.gtfs_cli.specs.declared.commands.refusal.Refusal.{Refusal}
 use Rattle.gtfs_cli.specs.declared.commands.refusal.Refusal.TheVariants.{Unreadable, Line, OutOfMemory}
 use Rattle.gtfs_cli.specs.declared.commands.request_fault.RequestFault.{RequestFault}
@@ -56,13 +55,13 @@ module _ (limit : ℕ) (held : Option Store) (asked : BoardsTexts) (feed : Feed)
       → of_utf8 bytes (StopsInAll Part (content_of_parts feed) z (requests_by (content_of_parts feed))) text → IsBoardsPart Part limit held asked text
   part-of Part text (utf8, is) = (setting utf8, subst (λ (f : Content). StopsInAll Part f z (requests_by f) text) h.is_feed.1 is)
 
-  module _ (x y : Devices) where
+  module _ (x y : Failures) where
     -- all that is judged before the text of the file was found good
-    after : (e : Refusal) → IsLinesCause limit held asked e ⊎ (⊤ × IsSendingCause x.output.failures y.output.failures e) → IsRefusedIn (boards_judges limit held asked) x y e
+    after : (e : Refusal) → IsLinesCause limit held asked e ⊎ (⊤ × IsSendingCause x.output y.output e) → IsRefusedIn (boards_judges limit held asked) x y e
     after e cause = inl (inr (has-passing limit held asked.dir feed h, inr ((z, hz), inr ((bytes, hb), cause))))
 
-    pub fault-of : (e : Refusal) → (e ≡ OutOfMemory → FailedNowhere (failures_of x) (failures_of y))
-        → IsFileFault asked.requests bytes (requests_by (content_of_parts feed)) e ⊎ IsSendingCause x.output.failures y.output.failures e
+    pub fault-of : (e : Refusal) → (e ≡ OutOfMemory → FailedNowhere x y)
+        → IsFileFault asked.requests bytes (requests_by (content_of_parts feed)) e ⊎ IsSendingCause x.output y.output e
         → IsRefusedIn (boards_judges limit held asked) x y e
     fault-of (Unreadable named) nowhere (inl fault) = after (Unreadable named) (inl (fault.0, (bytes, hb, fault.1)))
     fault-of (Line fault) nowhere (inl (utf8, is)) = after (Line fault) (inl (setting utf8, subst (λ (f : Content). requests_by f ≡ Err fault) h.is_feed.1 is))

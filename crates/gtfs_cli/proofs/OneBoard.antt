@@ -1,5 +1,5 @@
 -- A board has one outcome.
-use Rattle.std.proofs.Common.{◌≡◌, ◌∙◌, ap, sym, subst, refl, ℕ, true, false, Bool, List, [], Option, Some, None, codes}
+use Rattle.std.proofs.Common.{◌≡◌, ◌∙◌, ap, sym, subst, refl, ℕ, true, false, Bool, List, [], Option, Some, None}
 use Rattle.std.specs.Prelude.{◌<ℤ◌}
 use Rattle.std.proofs.lemmas.Option.{same_Some}
 use Rattle.gtfs_days.specs.Zone.{zone_origin, SaysSame}
@@ -20,7 +20,6 @@ use Rattle.gtfs_cli.specs.Boards.{board_judges, board_plan, stop_and_span, IsBoa
 use Rattle.gtfs_cli.specs.FileRead.{HoldsSomeZone}
 use Rattle.gtfs_cli.specs.HeldFiles.{HoldsPassing}
 use Rattle.gtfs_cli.specs.Judging.{feed, followed_by, sending, values, zone, Judged}
-use Rattle.gtfs_cli.specs.Messages.{line_of}
 use Rattle.gtfs_cli.specs.OptionValues.{first_bad, instant_at, judged_board, IsRequest, Request}
 use Rattle.gtfs_cli.specs.Plan.{passed}
 use Rattle.gtfs_cli.specs.declared.commands.refusal.Refusal.{Refusal}
@@ -29,7 +28,7 @@ use Rattle.gtfs_cli.proofs.BoardParts.{none-bad}
 use Rattle.gtfs_cli.proofs.FolderEnds.{excludes-feed, one_dataset, one-feed, quiet-feed}
 use Rattle.gtfs_cli.proofs.OneOutcome.{one-printed, IsOne}
 use Rattle.gtfs_cli.proofs.OnePage.{one_list, one_page}
-use Rattle.gtfs_cli.proofs.OneRefusal.{alike, excludes-by, excludes-chain, excludes-last, excludes-values, one-chain, one-last, one-values, quiet-chain, quiet-last, quiet-values, Alike, Excludes, One, Quiet}
+use Rattle.gtfs_cli.proofs.OneRefusal.{excludes-by, excludes-chain, excludes-last, excludes-values, one-chain, one-last, one-values, quiet-chain, quiet-last, quiet-values, Alike, Excludes, One, Quiet}
 use Rattle.gtfs_cli.proofs.ZoneEnds.{excludes-zone, one-zone, quiet-zone, same_zones}
 
 one_request : (asked : BoardTexts) (p q : Request) → IsRequest asked p → IsRequest asked q → p ≡ q

@@ -1,5 +1,5 @@
 -- Boards have one outcome.
-use Rattle.std.proofs.Common.{◌≡◌, ◌∙◌, ap, ap₂, sym, subst, refl, ℕ, Bool, List, [], ◌∷◌, ◌++◌, Option, Some, None, Result, Ok, Err, codes, decimal, inl, inr}
+use Rattle.std.proofs.Common.{◌≡◌, ◌∙◌, ap, ap₂, sym, subst, refl, ℕ, Bool, List, [], ◌∷◌, ◌++◌, Option, Some, Result, Ok, Err, codes, decimal}
 use Rattle.std.specs.Prelude.{IsOkAnd, IsUtf8}
 use Rattle.gtfs_days.specs.Zone.{zone_origin, SaysSame}
 use Rattle.gtfs_days.specs.declared.zone.Zone.{Zone}
@@ -24,7 +24,7 @@ use Rattle.gtfs_cli.specs.declared.commands.refusal.Refusal.TheVariants.{Line, U
 use Rattle.gtfs_cli.proofs.FolderEnds.{excludes-feed, one_dataset, one-feed, quiet-feed}
 use Rattle.gtfs_cli.proofs.OneBoard.{one_origin, one_text}
 use Rattle.gtfs_cli.proofs.OneOutcome.{one-printed, IsOne}
-use Rattle.gtfs_cli.proofs.OneRefusal.{excludes-by, excludes-chain, excludes-last, line-at, one-chain, one-last, quiet-chain, quiet-last, Alike, Excludes, One, Quiet}
+use Rattle.gtfs_cli.proofs.OneRefusal.{excludes-by, excludes-chain, excludes-last, one-chain, one-last, quiet-chain, quiet-last, Alike, Excludes, One, Quiet}
 use Rattle.gtfs_cli.proofs.ZoneEnds.{excludes-file, excludes-zone, one-file, one-zone, quiet-file, quiet-zone, same_bytes, same_zones}
 
 -- ---- the text, in zones that say the same

@@ -1,5 +1,5 @@
 -- Each command has one outcome.
-use Rattle.std.proofs.Common.{◌≡◌, ℕ, true, false, true≢false, List, Some, sym, ◌∙◌}
+use Rattle.std.proofs.Common.{◌≡◌, ℕ, true, true≢false, List, Some, sym, ◌∙◌}
 use Rattle.clap.specs.Words.{Text, takes}
 use Rattle.gtfs_devices.specs.Folder.{Store}
 use Rattle.gtfs_commands.specs.Words.{gtfs_app}

@@ -186,12 +186,12 @@ module _ (limit : ℕ) (store : Store) (asked : MergeTexts) where
 
   one-done : (now later : Option Store) (t u : List ℕ) (f g : Bool) → (f ≡ false) × IsMerged limit held asked now t → (g ≡ false) × IsMerged limit held asked later u
       → (now ≡ later) × (t ≡ u) × (f ≡ g)
-  one-done now later t u f g (no, m) (none, n) =
+  one-done now later t u f g (clean, m) (pure, n) =
       let content = same_content m.content n.content m.report n.report m.merges n.merges in
       let report = same_report m.content n.content m.report n.report m.merges n.merges in (
         m.files ∙ ap (λ (c : Content). Some (with_files c asked.out kept_files store)) content ∙ sym n.files,
         m.of_report ∙ report ∙ sym n.of_report,
-        no ∙ sym none,
+        clean ∙ sym pure,
       )
 
   pub one-merge : IsOne (merge_plan limit held asked) held

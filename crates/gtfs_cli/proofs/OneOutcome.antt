@@ -1,5 +1,5 @@
 -- A command has one outcome where its devices work and memory suffices, and ends with it.
-use Rattle.std.proofs.Common.{◌≡◌, ◌≢◌, ◌⊎◌, ◌∙◌, ap, sym, refl, subst, inl, inr, ℕ, Bool, List, [], Option, Some, None, Result, Ok, Err, append-nil}
+use Rattle.std.proofs.Common.{◌≡◌, ◌≢◌, ◌⊎◌, ◌∙◌, ap, sym, refl, subst, inl, inr, ℕ, Bool, List, [], Option, Result, Ok, Err}
 use Rattle.std.specs.Prelude.{cond}
 use Rattle.std.specs.Io.KnownBytes.{Appends, Keeps}
 use Rattle.gtfs_devices.specs.Folder.{Store}
@@ -14,6 +14,7 @@ use Rattle.gtfs_cli.specs.Sending.{or_none, text_left, Sends}
 use Rattle.gtfs_cli.specs.declared.commands.refusal.Refusal.{Refusal}
 use Rattle.gtfs_cli.specs.declared.commands.refusal.Refusal.TheVariants.{OutputFailed, OutOfMemory}
 use Rattle.gtfs_cli.proofs.OneRefusal.{One, Quiet}
+use Rattle.gtfs_cli.proofs.Parts.{appends-nothing}
 
 -- what is done is one thing, what is refused is told in one way, nothing that is done is refused, and a refusal leaves all as it was
 pub record IsOne (plan : Plan) (held : Option Store) : Type 0 where
@@ -27,7 +28,7 @@ pub one-printed : (held : Option Store) (judges : Judged) (Text : List ℕ → B
     → ((t u : List ℕ) (f g : Bool) → Text t f → Text u g → (t ≡ u) × (f ≡ g)) → One judges → ((t : List ℕ) (f : Bool) → Text t f → (r : Refusal) → IsPlainRefusal judges r → ⊥)
     → Quiet judges → IsOne (prints held judges Text Cut Stopped calls) held
 one-printed held judges Text Cut Stopped calls text one apart quiet = record {
-  done = λ now later t u f g a b. (a.0 ∙ sym b.0, text t u f g a.1 b.1);
+  done = λ now later t u f g a b. let same = text t u f g a.1 b.1 in (a.0 ∙ sym b.0, same.0, same.1);
   refusal = one;
   apart = λ now t f a r h. apart t f a.1 r h;
   nothing = λ now part r h left. (left.0, none part r h left.1);
@@ -53,11 +54,6 @@ module _ (plan : Plan) (held : Option Store) (law : IsOne plan held) where
       same-outcome x y (a.folders ∙ sym b.folders) (a.text ∙ sym b.text) (a.told ∙ same.0 ∙ sym b.told) (a.status ∙ same.1 ∙ sym b.status)
 
   -- ---- a run ends with it
-
-  appends-nothing : (a b : Option (List ℕ)) → Keeps a b → Appends a b []
-  appends-nothing None b h = tt
-  appends-nothing (Some xs) None h = h
-  appends-nothing (Some xs) (Some ys) h = h ∙ sym (append-nil xs)
 
   module _ (before after : Devices) (err told : Output) (status : ℕ) (free : IsUnhindered before after status) where
     done-as : (failed : Bool) → Ends plan before after (Ok failed) → status ≡ cond failed 1 0 → Keeps err.told told.told → EndsAsOne before after err told status (IsOutcome plan held)

@@ -1,5 +1,5 @@
 -- What is refused is refused in one way, and nothing that is found good is refused.
-use Rattle.std.proofs.Common.{◌≡◌, ◌⊎◌, ◌∙◌, ap, sym, refl, inl, inr, ℕ, Bool, List, Option, Some, None, codes, arith}
+use Rattle.std.proofs.Common.{◌≡◌, ◌⊎◌, ◌∙◌, ap, sym, refl, inl, inr, ℕ, Bool, List, Some, None, codes}
 use Rattle.clap.specs.Words.{Text}
 use Rattle.gtfs_cli.specs.Judging.{followed_by, sending, values, IsFirstBad, Judged}
 use Rattle.gtfs_cli.specs.Messages.{line_of, message}

@@ -1,5 +1,5 @@
 -- A timetable has one outcome.
-use Rattle.std.proofs.Common.{◌≡◌, ◌∙◌, ap, sym, refl, ℕ, true, false, Bool, List, [], Option, Some, None, Result, ℤ, codes}
+use Rattle.std.proofs.Common.{◌≡◌, ◌∙◌, ap, sym, refl, ℕ, Bool, List, [], Option, Some, None, Result, ℤ, codes}
 use Rattle.std.specs.Prelude.{unwrap_or}
 use Rattle.std.specs.Result.{result_ok}
 use Rattle.gtfs_devices.specs.Folder.{Store}

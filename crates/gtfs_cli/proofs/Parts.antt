@@ -1,7 +1,7 @@
 -- Texts that go out part by part, and calls that send them.
-use Rattle.std.proofs.Common.{◌≡◌, ◌∙◌, ap, sym, subst, refl, ℕ, List, [], ◌++◌, append-nil, append_assoc, take, drop, take-append-drop, Option, Result, Ok, Err}
+use Rattle.std.proofs.Common.{◌≡◌, ◌∙◌, ap, sym, subst, refl, ℕ, List, [], ◌++◌, append-nil, append_assoc, take, drop, take-append-drop, Option, None, Some, Result, Ok, Err}
 use Rattle.std.specs.Prelude.{IfErr, OnOk, OnErr}
-use Rattle.std.specs.Io.KnownBytes.{Appends}
+use Rattle.std.specs.Io.KnownBytes.{Appends, Keeps}
 use Rattle.std.proofs.KnownBytes.{Appends-nil, Appends-trans}
 use Rattle.gtfs_devices.specs.declared.output.OutFault.{OutFault}
 use Rattle.gtfs_cli.specs.Sending.{SendsBeginning}
@@ -11,6 +11,12 @@ use Rattle.gtfs_cli.specs.Sending.{SendsBeginning}
 -- the first bytes of a text are a beginning of it
 pub some-sent : (a b : Option (List ℕ)) (text : List ℕ) (n : ℕ) → Appends a b (take n text) → SendsBeginning a b text
 some-sent a b text n out = record { sent = take n text; left = drop n text; whole = sym (take-append-drop n text); out = out }
+
+-- where nothing changed, nothing went out
+pub appends-nothing : (a b : Option (List ℕ)) → Keeps a b → Appends a b []
+appends-nothing None b h = tt
+appends-nothing (Some xs) None h = h
+appends-nothing (Some xs) (Some ys) h = h ∙ sym (append-nil xs)
 
 -- ---- parts
 

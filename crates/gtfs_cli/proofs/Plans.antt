@@ -10,11 +10,12 @@ use Rattle.gtfs_cli.specs.Judging.{Judged}
 use Rattle.gtfs_cli.specs.Plan.{answer_of, passed, prints, Ends, IsRefusedIn, Plan}
 use Rattle.gtfs_cli.specs.Reads.{CallsFolders}
 use Rattle.gtfs_cli.specs.Refusals.{TellsFolders, TellsOutput}
-use Rattle.gtfs_cli.specs.Seen.{Device, Devices, Output}
+use Rattle.gtfs_cli.specs.Seen.{Device, Output}
 use Rattle.gtfs_cli.specs.Sending.{or_none, text_left, Begins, IsSendingCause, IsSent, PrintsText, SendsSome}
 use Rattle.gtfs_cli.specs.declared.commands.refusal.Refusal.{Refusal}
 use Rattle.gtfs_cli.specs.declared.commands.refusal.Refusal.TheVariants.{OutputFailed, OutOfMemory}
 use Rattle.gtfs_cli.proofs.FailuresTold.{output-kept, sending-told}
+use Rattle.gtfs_cli.proofs.ReadsThen.{asks-up}
 
 -- a refusal that `?` passes on, as the answer of a command that is no check
 pub err-up : {A : Type 0} (r : Result A Refusal) (e : Refusal) (P : Result Bool Refusal → Type 0) → IsErrAnd r (λ y. y ≡ e) → P (Err e) → P (answer_of r)
@@ -32,27 +33,36 @@ asks-answered n a b (Err e) h = record { grows = h.grows; no_failure = tt; told 
 
 -- ---- refused before anything goes out
 
+module _ (held now : Option Store) (judges : Judged) (Text : List ℕ → Bool → Type 0) (Cut Stopped : List ℕ → Type 0) (calls : ℕ) (same : now ≡ held) where
+  -- nothing goes out where the output is not at fault
+  none-left : (r : Refusal) → (r ≡ OutputFailed → ⊥) → (prints held judges Text Cut Stopped calls).Left now [] r
+  none-left OutputFailed other = absurd (other refl)
+  none-left OutOfMemory other = (same, inl refl)
+  none-left _ other = (same, refl)
+
 pub ends-refused : (plan : Plan) (a b : Device) (o : Output) (r : Refusal) → plan.Left b.held [] r
-    → IsRefusedIn plan.judges (record { folders = a; output = o }) (record { folders = b; output = o }) r → CallsFolders plan.calls {Bool} a b (Err r)
-    → Ends plan (record { folders = a; output = o }) (record { folders = b; output = o }) (Err r)
-ends-refused plan a b o r left cause asks = record {
+    → IsRefusedIn plan.judges (record { folders = a.failures; output = o.failures }) (record { folders = b.failures; output = o.failures }) r
+    → {T : Type 0} (n : ℕ) → n ≤ plan.calls → CallsFolders n {T = T} a b (Err r) → Ends plan (record { folders = a; output = o }) (record { folders = b; output = o }) (Err r)
+ends-refused plan a b o r left cause n few asks = record {
   done = tt;
   left = ([], left, Appends-nil o.told);
   refused = cause;
   told = output-kept o.failures r;
   grows = omega arith;
   no_failure = tt;
-  asks = asks;
+  asks = asks-up n plan.calls a b (Err r) r few refl asks;
 }
 
--- ---- a text that is printed
+-- the same of a command that prints a text
+pub prints-none : (held : Option Store) (judges : Judged) (Text : List ℕ → Bool → Type 0) (Cut Stopped : List ℕ → Type 0) (calls : ℕ) (a b : Device) (o : Output) (r : Refusal)
+    → b.held ≡ held → (r ≡ OutputFailed → ⊥)
+    → IsRefusedIn judges (record { folders = a.failures; output = o.failures }) (record { folders = b.failures; output = o.failures }) r
+    → {T : Type 0} (n : ℕ) → n ≤ calls → CallsFolders n {T = T} a b (Err r)
+    → Ends (prints held judges Text Cut Stopped calls) (record { folders = a; output = o }) (record { folders = b; output = o }) (Err r)
+prints-none held judges Text Cut Stopped calls a b o r same other cause n few asks =
+    ends-refused (prints held judges Text Cut Stopped calls) a b o r (none-left held b.held judges Text Cut Stopped calls same r other) cause n few asks
 
-module _ (held now : Option Store) (judges : Judged) (Text : List ℕ → Bool → Type 0) (Cut Stopped : List ℕ → Type 0) (calls : ℕ) (same : now ≡ held) where
-  -- nothing of it goes out where the output is not at fault
-  pub none-left : (r : Refusal) → (r ≡ OutputFailed → ⊥) → (prints held judges Text Cut Stopped calls).Left now [] r
-  none-left OutputFailed other = absurd (other refl)
-  none-left OutOfMemory other = (same, inl refl)
-  none-left _ other = (same, refl)
+-- ---- a text that is printed
 
 left-as : (C D Cut Stopped : List ℕ → Type 0) → ((t : List ℕ) → C t → Cut t) → ((t : List ℕ) → D t → Stopped t) → (part : List ℕ) (r : Refusal)
     → text_left C D part r → text_left Cut Stopped part r
@@ -71,7 +81,7 @@ module _ (a b : Device) (before after : Output) (judges : Judged) (Text Cut Stop
     (whole : (t : List ℕ) → W t → Text t) (cut : (t : List ℕ) → C t → Cut t) (stopped : (t : List ℕ) → D t → or_none Stopped t)
     (cause : (e : Refusal) → (e ≡ OutOfMemory → FailedNowhere (record { folders = a.failures; output = before.failures }) (record { folders = b.failures; output = after.failures }))
     → Cause e ⊎ IsSendingCause before.failures after.failures e
-    → IsRefusedIn judges (record { folders = a; output = before }) (record { folders = b; output = after }) e) (same : b.held ≡ a.held) where
+    → IsRefusedIn judges (record { folders = a.failures; output = before.failures }) (record { folders = b.failures; output = after.failures }) e) (same : b.held ≡ a.held) where
   pub ends-printed : {A : Type 0} (r : Result A Refusal) → CallsFolders calls a b r → PrintsText W C D Cause before after r
       → Ends (prints a.held judges (passed Text) Cut Stopped calls) (record { folders = a; output = before }) (record { folders = b; output = after }) (answer_of r)
   ends-printed (Ok x) asks p = record {
@@ -95,10 +105,10 @@ module _ (a b : Device) (before after : Output) (judges : Judged) (Text Cut Stop
 
 -- ---- texts of which only a property is known
 
-pub prints-up : {A B : Type 0} (W C D : List ℕ → Type 0) (Cause : Refusal → Type 0) (a b : Output) (r : Result B Refusal) (e : Refusal) → IsErrAnd r (λ y. y ≡ e)
-    → PrintsText W C D Cause {A} a b (Err e) → PrintsText W C D Cause a b r
+pub prints-up : {A : Type 0} (W C D : List ℕ → Type 0) (Cause : Refusal → Type 0) (a b : Output) (r : Result A Refusal) (e : Refusal) → IsErrAnd r (λ y. y ≡ e)
+    → PrintsText W C D Cause {T = A} a b (Err e) → PrintsText W C D Cause a b r
 prints-up W C D Cause a b (Ok x) e is h = absurd is
-prints-up W C D Cause a b (Err y) e is h = subst (λ (x : Refusal). PrintsText W C D Cause a b (Err x)) (sym is) (record {
+prints-up {A} W C D Cause a b (Err y) e is h = subst (λ (x : Refusal). PrintsText W C D Cause {T = A} a b (Err x)) (sym is) (record {
   printed = tt;
   left = h.left;
   refused = h.refused;
@@ -116,7 +126,7 @@ nothing-left C D none _ other = refl
 pub prints-refused : {A : Type 0} (W C D : List ℕ → Type 0) (Cause : Refusal → Type 0) → D [] → (a : Output) (r : Result A Refusal) (e : Refusal) → IsErrAnd r (λ y. y ≡ e)
     → Cause e ⊎ (e ≡ OutOfMemory) → (e ≡ OutputFailed → ⊥) → PrintsText W C D Cause a a r
 prints-refused W C D Cause none a (Ok x) e is cause other = absurd is
-prints-refused W C D Cause none a (Err y) e is cause other = subst (λ (x : Refusal). PrintsText W C D Cause a a (Err x)) (sym is) (record {
+prints-refused {A} W C D Cause none a (Err y) e is cause other = subst (λ (x : Refusal). PrintsText W C D Cause {T = A} a a (Err x)) (sym is) (record {
   printed = tt;
   left = ([], nothing-left C D none e other, Appends-nil a.told);
   refused = refused-by e cause;
@@ -127,7 +137,7 @@ prints-refused W C D Cause none a (Err y) e is cause other = subst (λ (x : Refu
   where
     refused-by : (x : Refusal) → Cause x ⊎ (x ≡ OutOfMemory) → Cause x ⊎ IsSendingCause a.failures a.failures x
     refused-by x (inl c) = inl c
-    refused-by x (inr no) = inr (subst (λ (u : Refusal). IsSendingCause a.failures a.failures u) (sym no) refl)
+    refused-by x (inr memory) = inr (subst (λ (u : Refusal). IsSendingCause a.failures a.failures u) (sym memory) refl)
 
 -- the whole text went out
 pub prints-whole : {A : Type 0} (W C D : List ℕ → Type 0) (Cause : Refusal → Type 0) (a b : Output) (x : A) → SendsSome W a b → b.failures ≡ a.failures
@@ -136,12 +146,12 @@ prints-whole W C D Cause a b x sent same = record { printed = sent; left = tt; r
 
 -- the output failed after a part of it
 pub prints-cut : {A : Type 0} (W C D : List ℕ → Type 0) (Cause : Refusal → Type 0) (a b : Output) → SendsSome C a b → Rises a.failures b.failures → a.failures ≤ b.failures
-    → PrintsText W C D Cause {A} a b (Err OutputFailed)
+    → PrintsText W C D Cause {T = A} a b (Err OutputFailed)
 prints-cut W C D Cause a b sent rises grows = record { printed = tt; left = sent; refused = inr rises; told = tt; grows = grows; no_failure = tt }
 
 -- memory ran out after a part of it
 pub prints-stopped : {A : Type 0} (W C D : List ℕ → Type 0) (Cause : Refusal → Type 0) (a b : Output) → SendsSome D a b → b.failures ≡ a.failures
-    → PrintsText W C D Cause {A} a b (Err OutOfMemory)
+    → PrintsText W C D Cause {T = A} a b (Err OutOfMemory)
 prints-stopped W C D Cause a b sent same =
     record { printed = tt; left = sent; refused = inr same; told = same; grows = omega (arith, same); no_failure = tt }
 
@@ -174,7 +184,7 @@ not-failed e memory failed = cc (sym memory ∙ failed)
 
 -- a refusal after more of a text went out
 pub prints-later : {A B : Type 0} (W C D W' C' D' : List ℕ → Type 0) (a b c : Output) (e : Refusal) → b.failures ≡ a.failures
-    → PrintsText W' C' D' (λ _. ⊥) {A} b c (Err e) → (t : List ℕ) × text_left C D t e × Appends a.told c.told t → PrintsText W C D (λ _. ⊥) {B} a c (Err e)
+    → PrintsText W' C' D' (λ _. ⊥) {T = A} b c (Err e) → (t : List ℕ) × text_left C D t e × Appends a.told c.told t → PrintsText W C D (λ _. ⊥) {T = B} a c (Err e)
 prints-later W C D W' C' D' a b c e same p sent = record {
   printed = tt;
   left = sent;
@@ -208,7 +218,8 @@ sent-printed W Cause a b text is (Err e) h = record {
 -- ---- a check
 
 module _ (a b : Device) (before after : Output) (judges : Judged) (Text : List ℕ → Bool → Type 0) (text : List ℕ) (calls : ℕ) (same : b.held ≡ a.held)
-    (cause : (e : Refusal) → IsSendingCause before.failures after.failures e → IsRefusedIn judges (record { folders = a; output = before }) (record { folders = b; output = after }) e) where
+    (cause : (e : Refusal) → IsSendingCause before.failures after.failures e
+    → IsRefusedIn judges (record { folders = a.failures; output = before.failures }) (record { folders = b.failures; output = after.failures }) e) where
   abbrev Some : List ℕ → Type 0
   Some t = (failed : Bool) × Text t failed
 

@@ -92,9 +92,6 @@ asks-up m n a b (Err y) e few is h = record {
 
 -- ---- the same, where the folders are read
 
-pub reads-none : {T : Type 0} (n : ℕ) (a : Device) (r : Result T Refusal) (e : Refusal) → IsErrAnd r (λ y. y ≡ e) → Reads n a a r
-reads-none n a r e is = record { unchanged = refl; same_limit = refl; asks = asks-none n a r e is }
-
 pub reads-done : {T U : Type 0} (n : ℕ) (a b : Device) (x : T) (r : Result U Refusal) → Reads n a b (Ok x) → Reads n a b r
 reads-done n a b x r h = record { unchanged = h.unchanged; same_limit = h.same_limit; asks = asks-done n a b x r h.asks }
 

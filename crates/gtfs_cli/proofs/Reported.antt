@@ -1,5 +1,5 @@
 -- How it ends to send the report of problems out: their lines, and then their counts.
-use Rattle.std.proofs.Common.{◌≡◌, ◌∙◌, ap, refl, sym, ℕ, ◌+◌, ◌-◌, ◌<◌, ◌≤◌, Bool, List, ◌++◌, length, map, take, get_or, Result, Err, arith}
+use Rattle.std.proofs.Common.{◌≡◌, ◌∙◌, ap, refl, sym, ℕ, ◌+◌, ◌-◌, ◌<◌, ◌≤◌, List, ◌++◌, length, map, take, get_or, Result, Err, arith}
 use Rattle.std.specs.Prelude.{count_by, flat_map, IsErrAnd, ⊤}
 use Rattle.std.proofs.lemmas.List.{length-map}
 use Rattle.std.proofs.lemmas.List.Folds.{flat_map-map}
@@ -39,4 +39,5 @@ module _ (ps : List Lent) (i : ℕ) (a b c : Output) where
       let counts = counts_text errors (length ps - errors) in
       let all : errors + (length ps - errors) ≡ length qs = omega (arith, within, length-map ps problem_of) in
       let whole = ap (λ (t : List ℕ). lines ++ t) (counts-line qs errors (length ps - errors) is all) ∙ made in
-      sent-same (lines ++ counts) (report_text qs) a c r whole (sent-both lines counts a b c tt r (items-sent shown_problem ps i a b tt end before) then)
+      let sent : SentWhole lines a b = items-sent shown_problem ps i a b tt end before in
+      sent-same (lines ++ counts) (report_text qs) a c r whole (sent-both {S = ⊤} lines counts a b c tt r sent then)

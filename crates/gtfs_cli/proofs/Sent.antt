@@ -20,11 +20,7 @@ SentWhole text before after = IsSent text {T = ⊤} before after (Ok tt)
 module _ {T : Type 0} where
   -- ---- one text
 
-  -- no text
-  pub sent-nothing : (done : T) (a : Output) → IsSent [] {T = T} a a (Ok done)
-  sent-nothing done a = record { sent = Appends-nil a.told; cut_short = tt; refused = tt; grows = omega arith; no_failure = refl }
-
-  -- memory ran out before anything was sent
+  -- memory ran out before anything was sent, and a `?` passes that on
   pub sent-unmade : (text : List ℕ) (a : Output) (r : Result T Refusal) → IsErrAnd r (λ e. e ≡ OutOfMemory) → IsSent text a a r
   sent-unmade text a (Ok done) is = absurd is
   sent-unmade text a (Err e) is = record {
@@ -38,6 +34,10 @@ module _ {T : Type 0} where
   -- the text is another
   pub sent-same : (x y : List ℕ) (a b : Output) (r : Result T Refusal) → x ≡ y → IsSent x a b r → IsSent y a b r
   sent-same x y a b r same sent = subst (λ (t : List ℕ). IsSent t a b r) same sent
+
+  -- the text was made in a line, in place of what that held
+  pub sent-made : (text bytes line cleared : List ℕ) (a b : Output) (r : Result T Refusal) → bytes ≡ line → line ≡ cleared ++ text → cleared ≡ [] → IsSent bytes a b r → IsSent text a b r
+  sent-made text bytes line cleared a b r are made empty sent = sent-same bytes text a b r (are ∙ made ∙ ap (λ (t : List ℕ). t ++ text) empty) sent
 
   -- what sent a text answers something else
   pub sent-whole : {S : Type 0} (x : List ℕ) (a b : Output) (did : S) (done : T) → IsSent x a b (Ok did) → IsSent x a b (Ok done)

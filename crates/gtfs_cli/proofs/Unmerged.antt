@@ -1,6 +1,5 @@
 -- Why two folders are not merged, and what is left then.
-use Rattle.std.proofs.Common.{◌≡◌, ◌∙◌, ap, refl, subst, ℕ, ◌<◌, length, ◌⊎◌, ⊤, inl, inr, true, false, List, [], ◌++◌, Option, None, Result, Ok, Err, sym}
-use Rattle.gtfs_devices.specs.Device.{Rises}
+use Rattle.std.proofs.Common.{◌≡◌, ◌∙◌, ap, refl, subst, ℕ, ◌<◌, length, ◌⊎◌, inl, inr, true, false, List, [], ◌++◌, Option, None, Result, Ok, Err, sym}
 use Rattle.gtfs_devices.specs.Folder.{Store}
 use Rattle.gtfs_table.specs.Reading.{kept_files}
 use Rattle.gtfs_rows.specs.Content.{Content}
@@ -13,16 +12,16 @@ use Rattle.gtfs_merge.specs.Merging.{IsMergeOf, KeepsDepartures}
 use Rattle.gtfs_merge.specs.declared.merging.Merged.{Merged}
 use Rattle.gtfs_commands.specs.Words.{MergeTexts}
 use Rattle.gtfs_cli.specs.Boards.{HoldsFeed}
-use Rattle.gtfs_cli.specs.Failures.{FailedNowhere}
+use Rattle.gtfs_cli.specs.Failures.{FailedNowhere, Failures}
 use Rattle.gtfs_cli.specs.MergeOptions.{first_bad_merge, IsMergeRequest, MergeRequest}
 use Rattle.gtfs_cli.specs.MergeParts.{HoldsMerge}
-use Rattle.gtfs_cli.specs.Merges.{file_limit, merge_judges, merge_of, merge_plan, report_for, BeginsReport, CanMerge, HoldsFiles, IsFolderMerge, IsFoldersCause, IsMerged, IsMergeFault, IsMergingCause, IsWritingCause, IsWritingEnd, IsWritten, MergeLeaves, MergeSetting, ReadsAgain, StopsAtOne}
+use Rattle.gtfs_cli.specs.Merges.{file_limit, merge_judges, merge_of, merge_plan, report_for, HoldsFiles, IsFolderMerge, IsFoldersCause, IsMerged, IsMergeFault, IsMergingCause, IsWritingCause, IsWritingEnd, MergeLeaves, MergeSetting, ReadsAgain}
 use Rattle.gtfs_cli.specs.NamesReport.{names_report}
-use Rattle.gtfs_cli.specs.Plan.{answer_of, failures_of, Ends, IsRefusedIn}
+use Rattle.gtfs_cli.specs.Plan.{answer_of, Ends, IsRefusedIn}
 use Rattle.gtfs_cli.specs.Reads.{CallsFolders}
 use Rattle.gtfs_cli.specs.Refusals.{IsReadingCause}
-use Rattle.gtfs_cli.specs.Seen.{Device, Devices, Output}
-use Rattle.gtfs_cli.specs.Sending.{Begins, IsSendingCause, IsSent}
+use Rattle.gtfs_cli.specs.Seen.{Device, Output}
+use Rattle.gtfs_cli.specs.Sending.{IsSendingCause, IsSent}
 use Rattle.gtfs_cli.specs.declared.commands.refusal.Refusal.{Refusal}
 use Rattle.gtfs_cli.specs.declared.commands.refusal.Refusal.TheVariants.{ZonesDiffer, MergeTooLarge, Unwritable, OutputFailed, OutOfMemory}
 use Rattle.gtfs_cli.proofs.FailuresTold.{sending-told}
@@ -100,27 +99,27 @@ module _ (limit : ℕ) (held : Option Store) (asked : MergeTexts) where
   no-written-folders x y path (inr (pass, inl h)) = h
   no-written-folders x y path (inr (pass, inr (also, h))) = h
 
-  module _ (x y : Devices) (none : first_bad_merge asked ≡ None) where
-    pub folders-cause : (r : Refusal) → IsFoldersCause limit held asked x.folders.failures y.folders.failures r → IsRefusedIn (merge_judges limit held asked) x y r
+  module _ (x y : Failures) (none : first_bad_merge asked ≡ None) where
+    pub folders-cause : (r : Refusal) → IsFoldersCause limit held asked x.folders y.folders r → IsRefusedIn (merge_judges limit held asked) x y r
     folders-cause r (inl h) = inl (inr (none, inl h))
     folders-cause r (inr (pass, inl h)) = inl (inr (none, inr (pass, inl h)))
     folders-cause r (inr (pass, inr (also, h))) = inl (inr (none, inr (pass, inr (also, inl h))))
 
     module _ (c : Content) (report : List ℕ) (is : IsFolderMerge limit held asked c report) where
       -- the folders and their merge were found good
-      after : (r : Refusal) → IsWritingCause asked x.folders.failures y.folders.failures r
-          ⊎ ((0 < length asked.out) × IsSendingCause x.output.failures y.output.failures r) → IsRefusedIn (merge_judges limit held asked) x y r
+      after : (r : Refusal) → IsWritingCause asked x.folders y.folders r
+          ⊎ ((0 < length asked.out) × IsSendingCause x.output y.output r) → IsRefusedIn (merge_judges limit held asked) x y r
       after r h =
           let s = is.setting in
           inl (inr (none, inr ((s.first, s.holds_first, s.first_passes), inr ((s.second, s.holds_second, s.second_passes), inr ((c, report, is), h)))))
 
-      pub writing-cause : (mid now : Option Store) → (r : Refusal) → (r ≡ OutOfMemory → FailedNowhere (failures_of x) (failures_of y))
-          → IsWritingEnd mid now x.folders.failures y.folders.failures asked.out c r → IsRefusedIn (merge_judges limit held asked) x y r
+      pub writing-cause : (mid now : Option Store) → (r : Refusal) → (r ≡ OutOfMemory → FailedNowhere x y)
+          → IsWritingEnd mid now x.folders y.folders asked.out c r → IsRefusedIn (merge_judges limit held asked) x y r
       writing-cause mid now (Unwritable path) nowhere h = after (Unwritable path) (inl (h.0, elim h.1 [ inl unnamed ↦ inl unnamed.0 | inr stopped ↦ inr stopped.1 ]))
       writing-cause mid now OutOfMemory nowhere h = inr (refl, nowhere refl)
       writing-cause mid now _ nowhere h = absurd h
 
-      pub sending-cause : 0 < length asked.out → (r : Refusal) → IsSendingCause x.output.failures y.output.failures r → IsRefusedIn (merge_judges limit held asked) x y r
+      pub sending-cause : 0 < length asked.out → (r : Refusal) → IsSendingCause x.output y.output r → IsRefusedIn (merge_judges limit held asked) x y r
       sending-cause named r h = after r (inr (named, h))
 
   -- ---- the files that are not written, and the report that is not printed
@@ -167,7 +166,7 @@ module _ (limit : ℕ) (held : Option Store) (asked : MergeTexts) where
               subst (λ (n : Option Store). MergeLeaves limit held asked n cut.sent e) (sym after) (sending-left x.failures y.failures e sent.refused cut.sent cut.left cut.whole),
               cut.out,
             );
-            refused = sending-cause (record { folders = a; output = x }) (record { folders = b; output = y }) none c report is named e sent.refused;
+            refused = sending-cause (record { folders = a.failures; output = x.failures }) (record { folders = b.failures; output = y.failures }) none c report is named e sent.refused;
             told = sending-told x.failures y.failures e sent.refused;
             grows = sent.grows;
             no_failure = tt;

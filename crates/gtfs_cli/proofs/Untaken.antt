@@ -1,29 +1,27 @@
 -- How a run ends whose words `clap` does not take.
-use Rattle.std.proofs.Common.{◌≡◌, ◌∙◌, ◌≤◌, ℕ, Bool, List, [], Option, Result, Ok, Err, None, Some, inl, inr, refl, sym, ap, subst, take, true, false, append-nil}
-use Rattle.std.specs.Prelude.{string_bytes, IfOk, IsErrAnd}
+use Rattle.std.proofs.Common.{◌≡◌, ◌≤◌, ℕ, Bool, List, [], Option, Result, Ok, Err, Some, inl, inr, refl, sym, subst, take, true, false}
+use Rattle.std.specs.Prelude.{IfOk, IsErrAnd}
 use Rattle.std.specs.Io.KnownBytes.{Appends, Keeps}
 use Rattle.clap.specs.Words.{Text, takes}
 use Rattle.gtfs_devices.specs.Device.{Rises}
 use Rattle.gtfs_devices.specs.Folder.{Store}
 use Rattle.gtfs_table.proofs.FolderFacts.{calls-none}
-use Rattle.gtfs_commands.specs.Words.{gtfs_app, AreForHelp, AreForVersion}
-use Rattle.gtfs_commands.specs.declared.fault.WordsFault.TheVariants as faults
+use Rattle.gtfs_commands.specs.Words.{gtfs_app, AreForHelpOrVersion, IsFaultOf}
+use Rattle.gtfs_commands.specs.declared.fault.WordsFault.{WordsFault}
 use Rattle.gtfs_cli.specs.Asked.{plan_of, words_plan, Asked, Asks, Board, Boards, Check, IsAnswer, IsWordsCause, Merge, Timetable, Untaken}
 use Rattle.gtfs_cli.specs.Plan.{Ends}
 use Rattle.gtfs_cli.specs.Refusals.{TellsOutput}
 use Rattle.gtfs_cli.specs.Seen.{Device, Output}
 use Rattle.gtfs_cli.specs.Sending.{or_none, Begins, PrintsText}
+use Rattle.gtfs_cli.specs.UntakenWords.{text_for_output}
 use Rattle.gtfs_cli.specs.declared.commands.refusal.Refusal.{Refusal}
 use Rattle.gtfs_cli.specs.declared.commands.refusal.Refusal.TheVariants.{OutOfMemory, OutputFailed}
-use Rattle.gtfs_cli.proofs.Parts.{some-sent}
+use Rattle.gtfs_cli.proofs.Parts.{appends-nothing, some-sent}
 use Rattle.gtfs_cli.proofs.Plans.{prints-cut, prints-up, prints-whole}
 use Rattle.gtfs_cli.proofs.ReadsThen.{asks-made, asks-none}
 
-pub help-answer : (words : List Text) (text : _) → AreForHelp words → IsAnswer words (string_bytes text)
-help-answer words text asked = record { fault = faults.Help text; asked = inl asked; is_fault = asked; is_text = refl }
-
-pub version-answer : (words : List Text) (text : _) → AreForVersion words → IsAnswer words (string_bytes text)
-version-answer words text asked = record { fault = faults.Version text; asked = inr asked; is_fault = asked; is_text = refl }
+pub answer-of : (words : List Text) (fault : WordsFault) (text : List ℕ) → AreForHelpOrVersion words → IsFaultOf words fault → text_for_output fault ≡ Some text → IsAnswer words text
+answer-of words fault text asked is same = record { fault = fault; asked = asked; is_fault = is; is_text = same }
 
 -- it went out
 pub answer-sent : {A : Type 0} (words : List Text) (a b : Output) (text bytes : List ℕ) {x : A} → IsAnswer words text → bytes ≡ text → Appends a.told b.told bytes → b.failures ≡ a.failures
@@ -42,10 +40,6 @@ answer-cut {A} words a b text bytes is same n out rises grows r failed =
     (begun.sent, record { text = text; left = begun.left; is_text = is; whole = begun.whole }, begun.out) rises grows)
 
 -- ---- what a command ends with whose words were not read
-
-keeps-appends : (a b : Option (List ℕ)) → Keeps a b → Appends a b []
-keeps-appends None b h = tt
-keeps-appends (Some xs) b h = h ∙ ap (λ (t : List ℕ). Some t) (sym (append-nil xs))
 
 left-memory : (limit : ℕ) (held : Option Store) (words : List Text) (asked : Asked) → (plan_of limit held words asked).Left held [] OutOfMemory
 left-memory limit held words (Check dir) = (refl, inl refl)
@@ -73,7 +67,7 @@ module _ (words : List Text) (a : Device) (x y : Output) (r : Result Bool Refusa
             left = (
               [],
               subst (λ (n : Refusal). (plan_of a.limit a.held words asked).Left a.held [] n) (sym is) (left-memory a.limit a.held words asked),
-              keeps-appends x.told y.told keeps,
+              appends-nothing x.told y.told keeps,
             );
             refused = inr (is, (refl, quiet));
             told = p.told;

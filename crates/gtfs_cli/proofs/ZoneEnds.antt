@@ -13,11 +13,10 @@ use Rattle.gtfs_cli.specs.FileRead.{HoldsSomeZone, IsPathCause, IsZoneCause}
 use Rattle.gtfs_cli.specs.HeldFiles.{FitsZone, HasBytes, HoldsBytes, HoldsFile, HoldsNoZone, HoldsZone, LacksFile, NamesNoFile}
 use Rattle.gtfs_cli.specs.Judging.{zone}
 use Rattle.gtfs_cli.specs.ManyBoards.{request_file}
-use Rattle.gtfs_cli.specs.Messages.{line_of, message}
+use Rattle.gtfs_cli.specs.Messages.{line_of}
 use Rattle.gtfs_cli.specs.Outcomes.{IsPlainRefusal}
-use Rattle.gtfs_cli.specs.Refusals.{status_of}
 use Rattle.gtfs_cli.specs.declared.commands.refusal.Refusal.{Refusal}
-use Rattle.gtfs_cli.specs.declared.commands.refusal.Refusal.TheVariants.{NotThere, Unreadable, OverLimit, NoZone, OutputFailed, OutOfMemory}
+use Rattle.gtfs_cli.specs.declared.commands.refusal.Refusal.TheVariants.{NotThere, Unreadable, OverLimit, NoZone, OutOfMemory}
 use Rattle.gtfs_cli.proofs.OneRefusal.{alike, line-at, Alike, Excludes, One, Quiet, Says}
 use Rattle.gtfs_cli.proofs.PathCuts.{together}
 

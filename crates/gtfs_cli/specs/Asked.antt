@@ -1,6 +1,6 @@
 -- What words ask for, and what is then done.
-use Rattle.std.specs.Prelude.{◌≡◌, ⊤, ℕ, true, false, Bool, List, [], Option, Some, string_bytes}
-use Rattle.clap.specs.Words.{Text, subcommand_of, takes}
+use Rattle.std.specs.Prelude.{◌≡◌, ⊤, ℕ, false, List, Option, Some}
+use Rattle.clap.specs.Words.{Text, takes}
 use Rattle.gtfs_devices.specs.Folder.{Store}
 use Rattle.gtfs_commands.specs.Words.{gtfs_app, AreForHelpOrVersion, AreRefused, AsksBoardOf, AsksBoardsOf, AsksCheckOf, AsksMergeOf, AsksTimetableOf, BoardTexts, BoardsTexts, IsFaultOf, MergeTexts, TimetableTexts}
 use Rattle.gtfs_commands.specs.declared.fault.WordsFault.{WordsFault}

@@ -1,5 +1,5 @@
 -- What a board is made of, and why there is none.
-use Rattle.std.specs.Prelude.{◌≡◌, ℕ, false, true, Option, ℤ, ◌<ℤ◌}
+use Rattle.std.specs.Prelude.{◌≡◌, ℕ, false, true, Option, ◌<ℤ◌}
 use Rattle.gtfs_days.specs.Zone.{zone_origin}
 use Rattle.gtfs_days.specs.declared.zone.Zone.{Zone}
 use Rattle.gtfs_devices.specs.Folder.{Store}

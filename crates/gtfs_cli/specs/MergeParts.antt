@@ -9,12 +9,10 @@ use Rattle.gtfs_rows.specs.Written.{written}
 use Rattle.gtfs_rows.specs.Views.{content_of_parts}
 use Rattle.gtfs_merge.specs.declared.merging.Merged.{Merged}
 use Rattle.gtfs_commands.specs.Words.{MergeTexts}
-use Rattle.gtfs_cli.specs.MergeOptions.{first_bad_merge, MergeRequest}
+use Rattle.gtfs_cli.specs.MergeOptions.{MergeRequest}
 use Rattle.gtfs_cli.specs.Merges.{file_text, IsFolderMerge}
 use Rattle.gtfs_cli.specs.NamesReport.{names_report}
 use Rattle.gtfs_cli.specs.declared.commands.merge_values.MergeValues.{MergeValues}
-use Rattle.gtfs_cli.specs.declared.commands.refusal.Refusal.{Refusal}
-use Rattle.gtfs_cli.specs.declared.commands.refusal.Refusal.TheVariants.{BadValue}
 
 -- the request that values are
 abbrev pub merge_request_of : MergeValues → MergeRequest

@@ -46,15 +46,15 @@ abbrev pub failures_of : Devices → Failures
 failures_of devices = record { folders = devices.folders.failures; output = devices.output.failures }
 
 -- the first thing that is refused is told, or memory ran out
-abbrev pub IsRefusedIn : Judged → Devices → Devices → Refusal → Type 0
+abbrev pub IsRefusedIn : Judged → Failures → Failures → Refusal → Type 0
 IsRefusedIn judges before after refusal =
-    judges.Refuses (failures_of before) (failures_of after) refusal ⊎ ((refusal ≡ OutOfMemory) × FailedNowhere (failures_of before) (failures_of after))
+    judges.Refuses before after refusal ⊎ ((refusal ≡ OutOfMemory) × FailedNowhere before after)
 
 -- it answers whether a check found an error, or why it was not done; the devices were so before, and are so after it
 pub record Ends (plan : Plan) (before after : Devices) (ended : Result Bool Refusal) : Type 0 where
   pub done : IfOk ended (λ failed. SendsSome (λ text. plan.Done after.folders.held text failed) before.output after.output)
   pub left : IfErr ended (λ refusal. SendsSome (λ part. plan.Left after.folders.held part refusal) before.output after.output)
-  pub refused : IfErr ended (IsRefusedIn plan.judges before after)
+  pub refused : IfErr ended (IsRefusedIn plan.judges (failures_of before) (failures_of after))
   pub told : IfErr ended (TellsOutput before.output.failures after.output.failures)
   pub grows : before.output.failures ≤ after.output.failures
   pub no_failure : OnOk ended (after.output.failures ≡ before.output.failures)

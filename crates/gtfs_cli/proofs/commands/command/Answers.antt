@@ -1,10 +1,6 @@
-use Rattle.std.proofs.Common.{map, subst, sym}
-use Rattle.clap.specs.Words.{subcommand_of}
-use Rattle.gtfs_commands.specs.Words.{gtfs_app, IsCommandOf}
-use Rattle.gtfs_commands.specs.declared.command.Command.{Command}
+use Rattle.std.proofs.Common.{map, refl}
 use Rattle.gtfs_cli.specs.Asked.{plan_of}
-use Rattle.gtfs_cli.specs.Plan.{Ends}
-use Rattle.gtfs_cli.proofs.AskedOne.{as-asked, asked_by}
+use Rattle.gtfs_cli.proofs.AskedOne.{ends-asked}
 use Rattle.gtfs_cli.proofs.Untaken.{ends-fault}
 use Rattle.gtfs_cli.proofs.commands.command.Goals as goal
 
@@ -12,40 +8,31 @@ pub returns-in-Ok-Check : goal.returns-in-Ok-Check
 returns-in-Ok-Check g c =
     let texts = map g.S.AsStr.text c.args.words.now in
     let plan = plan_of (g.F.Folders.limit c.args.folders.now) (g.F.Folders.held c.args.folders.now) texts in
-    as-asked texts c.in-Ok-Check.field-0 c.in-Ok-Check.ensures.taken c.in-Ok-Check.ensures.read (λ asked. Ends (plan asked) _ _ c.print_report.result)
-    (subst (λ (x : Command). Ends (plan (asked_by x)) _ _ c.print_report.result) (sym c.in-Ok-Check.field-0-is) c.print_report.ensures)
+    ends-asked plan texts c.in-Ok-Check.field-0 _ c.in-Ok-Check.field-0-is c.in-Ok-Check.ensures.taken c.in-Ok-Check.ensures.read _ _ c.print_report.result _ refl c.print_report.ensures
 
 pub returns-in-Ok-Board : goal.returns-in-Ok-Board
 returns-in-Ok-Board g c =
     let texts = map g.S.AsStr.text c.args.words.now in
     let plan = plan_of (g.F.Folders.limit c.args.folders.now) (g.F.Folders.held c.args.folders.now) texts in
-    as-asked texts c.in-Ok-Board.field-0 c.in-Ok-Board.ensures.taken c.in-Ok-Board.ensures.read (λ asked. Ends (plan asked) _ _ c.answer.result)
-    (subst (λ (x : Command). Ends (plan (asked_by x)) _ _ c.answer.result) (sym c.in-Ok-Board.field-0-is)
-    (subst (λ ended. Ends _ _ _ ended) (sym c.answer.ensures) c.print_board.ensures))
+    ends-asked plan texts c.in-Ok-Board.field-0 _ c.in-Ok-Board.field-0-is c.in-Ok-Board.ensures.taken c.in-Ok-Board.ensures.read _ _ c.answer.result _ c.answer.ensures c.print_board.ensures
 
 pub returns-in-Ok-Boards : goal.returns-in-Ok-Boards
 returns-in-Ok-Boards g c =
     let texts = map g.S.AsStr.text c.args.words.now in
     let plan = plan_of (g.F.Folders.limit c.args.folders.now) (g.F.Folders.held c.args.folders.now) texts in
-    as-asked texts c.in-Ok-Boards.field-0 c.in-Ok-Boards.ensures.taken c.in-Ok-Boards.ensures.read (λ asked. Ends (plan asked) _ _ c.answer-in-Ok-Boards.result)
-    (subst (λ (x : Command). Ends (plan (asked_by x)) _ _ c.answer-in-Ok-Boards.result) (sym c.in-Ok-Boards.field-0-is)
-    (subst (λ ended. Ends _ _ _ ended) (sym c.answer-in-Ok-Boards.ensures) c.print_boards.ensures))
+    ends-asked plan texts c.in-Ok-Boards.field-0 _ c.in-Ok-Boards.field-0-is c.in-Ok-Boards.ensures.taken c.in-Ok-Boards.ensures.read _ _ c.answer-in-Ok-Boards.result _ c.answer-in-Ok-Boards.ensures c.print_boards.ensures
 
 pub returns-in-Ok-Timetable : goal.returns-in-Ok-Timetable
 returns-in-Ok-Timetable g c =
     let texts = map g.S.AsStr.text c.args.words.now in
     let plan = plan_of (g.F.Folders.limit c.args.folders.now) (g.F.Folders.held c.args.folders.now) texts in
-    as-asked texts c.in-Ok-Timetable.field-0 c.in-Ok-Timetable.ensures.taken c.in-Ok-Timetable.ensures.read (λ asked. Ends (plan asked) _ _ c.answer-in-Ok-Timetable.result)
-    (subst (λ (x : Command). Ends (plan (asked_by x)) _ _ c.answer-in-Ok-Timetable.result) (sym c.in-Ok-Timetable.field-0-is)
-    (subst (λ ended. Ends _ _ _ ended) (sym c.answer-in-Ok-Timetable.ensures) c.print_timetable.ensures))
+    ends-asked plan texts c.in-Ok-Timetable.field-0 _ c.in-Ok-Timetable.field-0-is c.in-Ok-Timetable.ensures.taken c.in-Ok-Timetable.ensures.read _ _ c.answer-in-Ok-Timetable.result _ c.answer-in-Ok-Timetable.ensures c.print_timetable.ensures
 
 pub returns-in-Ok-Merge : goal.returns-in-Ok-Merge
 returns-in-Ok-Merge g c =
     let texts = map g.S.AsStr.text c.args.words.now in
     let plan = plan_of (g.F.Folders.limit c.args.folders.now) (g.F.Folders.held c.args.folders.now) texts in
-    as-asked texts c.in-Ok-Merge.field-0 c.in-Ok-Merge.ensures.taken c.in-Ok-Merge.ensures.read (λ asked. Ends (plan asked) _ _ c.answer-in-Ok-Merge.result)
-    (subst (λ (x : Command). Ends (plan (asked_by x)) _ _ c.answer-in-Ok-Merge.result) (sym c.in-Ok-Merge.field-0-is)
-    (subst (λ ended. Ends _ _ _ ended) (sym c.answer-in-Ok-Merge.ensures) c.print_merge.ensures))
+    ends-asked plan texts c.in-Ok-Merge.field-0 _ c.in-Ok-Merge.field-0-is c.in-Ok-Merge.ensures.taken c.in-Ok-Merge.ensures.read _ _ c.answer-in-Ok-Merge.result _ c.answer-in-Ok-Merge.ensures c.print_merge.ensures
 
 pub returns-in-Err : goal.returns-in-Err
 returns-in-Err g c =

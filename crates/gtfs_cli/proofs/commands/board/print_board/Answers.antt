@@ -1,4 +1,4 @@
-use Rattle.std.proofs.Common.{◌∙◌, Err, inl, inr, refl, subst, arith}
+use Rattle.std.proofs.Common.{Bool, ◌∙◌, Err, inl, inr, refl, subst, arith}
 use Rattle.gtfs_board.specs.Page.{IsCutShort, IsPage, IsStopped}
 use Rattle.gtfs_commands.specs.Words.{texts_of}
 use Rattle.gtfs_cli.specs.Boards.{board_judges, board_plan, request_of, IsBoardText}
@@ -10,8 +10,8 @@ use Rattle.gtfs_cli.specs.Plan.{Ends}
 use Rattle.gtfs_cli.specs.Refusals.{IsReadingCause}
 use Rattle.gtfs_cli.specs.declared.commands.refusal.Refusal.{Refusal}
 use Rattle.gtfs_cli.proofs.BoardParts.{cause-of, has-passing, none-bad, text-of}
-use Rattle.gtfs_cli.proofs.Plans.{ends-printed, ends-refused, err-up, none-left}
-use Rattle.gtfs_cli.proofs.ReadsThen.{asks-done, asks-none, asks-then, asks-up, reads-back}
+use Rattle.gtfs_cli.proofs.Plans.{ends-printed, err-up, prints-none}
+use Rattle.gtfs_cli.proofs.ReadsThen.{asks-done, asks-none, asks-then, reads-back}
 use Rattle.gtfs_cli.proofs.commands.board.print_board.Goals as goal
 
 pub returns-in_err-values : goal.returns-in_err-values
@@ -22,9 +22,8 @@ returns-in_err-values g c =
     let r = c.in_err-values.field-0.0 in
     let bad = c.in_err-values.ensures.refused in
     err-up c.from_residual.result r (Ends (board_plan limit held asked) _ _) c.from_residual.ensures.1
-    (ends-refused (board_plan limit held asked) _ _ _ r
-    (none-left held held (board_judges limit held asked) _ _ _ 11 refl r (λ is. subst (λ (e : Refusal). IsFirstBad (judged_board asked) e) is bad))
-    (inl (inl bad)) (asks-none 11 _ (Err r) r refl))
+    (prints-none held (board_judges limit held asked) _ _ _ 11 _ _ _ r refl (λ is. subst (λ (e : Refusal). IsFirstBad (judged_board asked) e) is bad)
+    (inl (inl bad)) {T = Bool} 0 (omega arith) (asks-none 0 _ (Err r) r refl))
 
 pub returns-in_err-feed : goal.returns-in_err-feed
 returns-in_err-feed g c =
@@ -35,10 +34,9 @@ returns-in_err-feed g c =
     let bad = c.in_err-feed.ensures.refused in
     let reads = c.in_err-feed.ensures.reads in
     err-up c.from_residual-in_err-feed.result r (Ends (board_plan limit held asked) _ _) c.from_residual-in_err-feed.ensures.1
-    (ends-refused (board_plan limit held asked) _ _ _ r
-    (none-left held _ (board_judges limit held asked) _ _ _ 11 reads.unchanged r (λ is. subst (λ (e : Refusal). IsReadingCause limit held asked.dir _ _ e) is bad))
-    (inl (inr (none-bad asked (request_of c.in_ok-values.values) c.in_ok-values.ensures.read.request, inl bad)))
-    (asks-up 10 11 _ _ (Err r) r (omega arith) refl reads.asks))
+    (prints-none held (board_judges limit held asked) _ _ _ 11 _ _ _ r reads.unchanged
+    (λ is. subst (λ (e : Refusal). IsReadingCause limit held asked.dir (g.F.Folders.failure_count c.args.folders.now) (g.F.Folders.failure_count c.read_feed.new.folders) e) is bad)
+    (inl (inr (none-bad asked (request_of c.in_ok-values.values) c.in_ok-values.ensures.read.request, inl bad))) 10 (omega arith) reads.asks)
 
 pub returns-in_err-zone : goal.returns-in_err-zone
 returns-in_err-zone g c =
@@ -50,13 +48,13 @@ returns-in_err-zone g c =
     let read = c.in_ok-feed.ensures.reads in
     let bad = reads-back 10 _ _ c.in_ok-feed.feed (λ l h k. IsZoneCause l h asked.zone k (g.F.Folders.failure_count c.read_zone.new.folders) r) read c.in_err-zone.ensures.refused in
     err-up c.from_residual-in_err-zone.result r (Ends (board_plan limit held asked) _ _) c.from_residual-in_err-zone.ensures.1
-    (ends-refused (board_plan limit held asked) _ _ _ r
-    (none-left held _ (board_judges limit held asked) _ _ _ 11 (reads.unchanged ∙ read.unchanged) r (λ is. subst (λ (e : Refusal). IsZoneCause limit held asked.zone _ _ e) is bad))
+    (prints-none held (board_judges limit held asked) _ _ _ 11 _ _ _ r (reads.unchanged ∙ read.unchanged)
+    (λ is. subst (λ (e : Refusal). IsZoneCause limit held asked.zone (g.F.Folders.failure_count c.args.folders.now) (g.F.Folders.failure_count c.read_zone.new.folders) e) is bad)
     (inl (inr (
       none-bad asked (request_of c.in_ok-values.values) c.in_ok-values.ensures.read.request,
       inr (has-passing limit held asked.dir c.in_ok-feed.feed c.in_ok-feed.ensures.read, inl bad),
     )))
-    (asks-then 10 1 _ _ _ c.in_ok-feed.feed (Err r) read.asks reads.asks))
+    11 (omega arith) (asks-then 10 1 _ _ _ c.in_ok-feed.feed _ read.asks reads.asks))
 
 pub returns : goal.returns
 returns g c =

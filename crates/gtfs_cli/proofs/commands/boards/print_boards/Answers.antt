@@ -1,4 +1,4 @@
-use Rattle.std.proofs.Common.{◌∙◌, Err, inl, inr, refl, subst, arith}
+use Rattle.std.proofs.Common.{◌∙◌, inl, inr, sym, subst, arith}
 use Rattle.gtfs_commands.specs.Words.{boards_texts_of}
 use Rattle.gtfs_cli.specs.FileRead.{IsPathCause, IsZoneCause}
 use Rattle.gtfs_cli.specs.HeldFiles.{HoldsBytes, HoldsZone}
@@ -8,8 +8,8 @@ use Rattle.gtfs_cli.specs.Refusals.{IsReadingCause}
 use Rattle.gtfs_cli.specs.declared.commands.refusal.Refusal.{Refusal}
 use Rattle.gtfs_cli.proofs.BoardParts.{has-passing}
 use Rattle.gtfs_cli.proofs.ManyBoards.{boards-of, fault-of, part-of}
-use Rattle.gtfs_cli.proofs.Plans.{ends-printed, ends-refused, err-up, none-left}
-use Rattle.gtfs_cli.proofs.ReadsThen.{asks-done, asks-then, asks-up, reads-back, reads-then}
+use Rattle.gtfs_cli.proofs.Plans.{ends-printed, err-up, prints-none}
+use Rattle.gtfs_cli.proofs.ReadsThen.{asks-done, asks-then, reads-back, reads-then}
 use Rattle.gtfs_cli.proofs.commands.boards.print_boards.Goals as goal
 
 pub returns-in_err-feed : goal.returns-in_err-feed
@@ -21,9 +21,9 @@ returns-in_err-feed g c =
     let bad = c.in_err-feed.ensures.refused in
     let reads = c.in_err-feed.ensures.reads in
     err-up c.from_residual.result r (Ends (boards_plan limit held asked) _ _) c.from_residual.ensures.1
-    (ends-refused (boards_plan limit held asked) _ _ _ r
-    (none-left held _ (boards_judges limit held asked) _ _ _ 12 reads.unchanged r (λ is. subst (λ (e : Refusal). IsReadingCause limit held asked.dir _ _ e) is bad))
-    (inl (inl bad)) (asks-up 10 12 _ _ (Err r) r (omega arith) refl reads.asks))
+    (prints-none held (boards_judges limit held asked) _ _ _ 12 _ _ _ r reads.unchanged
+    (λ is. subst (λ (e : Refusal). IsReadingCause limit held asked.dir (g.F.Folders.failure_count c.args.folders.now) (g.F.Folders.failure_count c.read_feed.new.folders) e) is bad)
+    (inl (inl bad)) 10 (omega arith) reads.asks)
 
 pub returns-in_err-zone : goal.returns-in_err-zone
 returns-in_err-zone g c =
@@ -35,10 +35,10 @@ returns-in_err-zone g c =
     let read = c.in_ok-feed.ensures.reads in
     let bad = reads-back 10 _ _ c.in_ok-feed.feed (λ l h k. IsZoneCause l h asked.zone k (g.F.Folders.failure_count c.read_zone.new.folders) r) read c.in_err-zone.ensures.refused in
     err-up c.from_residual-in_err-zone.result r (Ends (boards_plan limit held asked) _ _) c.from_residual-in_err-zone.ensures.1
-    (ends-refused (boards_plan limit held asked) _ _ _ r
-    (none-left held _ (boards_judges limit held asked) _ _ _ 12 (reads.unchanged ∙ read.unchanged) r (λ is. subst (λ (e : Refusal). IsZoneCause limit held asked.zone _ _ e) is bad))
+    (prints-none held (boards_judges limit held asked) _ _ _ 12 _ _ _ r (reads.unchanged ∙ read.unchanged)
+    (λ is. subst (λ (e : Refusal). IsZoneCause limit held asked.zone (g.F.Folders.failure_count c.args.folders.now) (g.F.Folders.failure_count c.read_zone.new.folders) e) is bad)
     (inl (inr (has-passing limit held asked.dir c.in_ok-feed.feed c.in_ok-feed.ensures.read, inl bad)))
-    (asks-up 11 12 _ _ (Err r) r (omega arith) refl (asks-then 10 1 _ _ _ c.in_ok-feed.feed (Err r) read.asks reads.asks)))
+    11 (omega arith) (asks-then 10 1 _ _ _ c.in_ok-feed.feed _ read.asks reads.asks))
 
 pub returns-in_err-bytes : goal.returns-in_err-bytes
 returns-in_err-bytes g c =
@@ -52,10 +52,10 @@ returns-in_err-bytes g c =
     let zone = reads-back 10 _ _ c.in_ok-feed.feed (λ l h k. HoldsZone l h asked.zone c.in_ok-zone.zone) read c.in_ok-zone.ensures.read in
     let bad = reads-back 11 _ _ c.in_ok-zone.zone (λ l h k. IsPathCause l h asked.requests k (g.F.Folders.failure_count c.read_file.new.folders) r) both c.in_err-bytes.ensures.refused in
     err-up c.from_residual-in_err-bytes.result r (Ends (boards_plan limit held asked) _ _) c.from_residual-in_err-bytes.ensures.1
-    (ends-refused (boards_plan limit held asked) _ _ _ r
-    (none-left held _ (boards_judges limit held asked) _ _ _ 12 (reads.unchanged ∙ both.unchanged) r (λ is. subst (λ (e : Refusal). IsPathCause limit held asked.requests _ _ e) is bad))
+    (prints-none held (boards_judges limit held asked) _ _ _ 12 _ _ _ r (reads.unchanged ∙ both.unchanged)
+    (λ is. subst (λ (e : Refusal). IsPathCause limit held asked.requests (g.F.Folders.failure_count c.args.folders.now) (g.F.Folders.failure_count c.read_file.new.folders) e) is bad)
     (inl (inr (has-passing limit held asked.dir c.in_ok-feed.feed c.in_ok-feed.ensures.read, inr ((c.in_ok-zone.zone, zone), inl bad))))
-    (asks-then 11 1 _ _ _ c.in_ok-zone.zone (Err r) both.asks reads.asks))
+    12 (omega arith) (asks-then 11 1 _ _ _ c.in_ok-zone.zone _ both.asks reads.asks))
 
 pub returns : goal.returns
 returns g c =
@@ -66,7 +66,7 @@ returns g c =
     let both = reads-then 10 1 _ _ _ c.in_ok-feed.feed _ read c.in_ok-zone.ensures.reads in
     let all = reads-then 11 1 _ _ _ c.in_ok-zone.zone _ both c.in_ok-bytes.ensures.reads in
     let zone = reads-back 10 _ _ c.in_ok-feed.feed (λ l h k. HoldsZone l h asked.zone c.in_ok-zone.zone) read c.in_ok-zone.ensures.read in
-    let bytes = subst (λ bs. HoldsBytes limit held asked.requests bs) c.as_slice.ensures.value
+    let bytes = subst (λ bs. HoldsBytes limit held asked.requests bs) (sym c.as_slice.ensures.value)
     (reads-back 11 _ _ c.in_ok-zone.zone (λ l h k. HoldsBytes l h asked.requests c.in_ok-bytes.bytes.items) both c.in_ok-bytes.ensures.read) in
     let feed = c.in_ok-feed.ensures.read in
     let part = part-of limit held asked c.in_ok-feed.feed c.in_ok-zone.zone _ feed zone bytes in

@@ -3,9 +3,9 @@ use Rattle.gtfs_days.specs.Zone.{zone_origin}
 use Rattle.gtfs_rows.specs.Views.{content_of_parts}
 use Rattle.gtfs_rows.specs.declared.parts.Parts.{Parts as Feed}
 use Rattle.gtfs_cli.specs.ManyBoards.{AreAllBoards, BeginsBoard, BeginsWhole, IsRequestsFault, StopsInAll}
-use Rattle.gtfs_cli.specs.Sending.{or_none, PrintsText}
+use Rattle.gtfs_cli.specs.Sending.{or_none, Output, PrintsText}
 use Rattle.gtfs_cli.specs.declared.commands.refusal.Refusal.TheVariants.{Line, OutOfMemory}
-use Rattle.gtfs_cli.proofs.Plans.{as-it-is, no-cause, not-failed, prints-as, prints-refused}
+use Rattle.gtfs_cli.proofs.Plans.{no-cause, not-failed, prints-as, prints-refused}
 use Rattle.gtfs_cli.proofs.RequestLines.{asked_from, refused_by}
 use Rattle.gtfs_cli.proofs.commands.boards.print_lines.Goals as goal
 
@@ -23,6 +23,8 @@ pub returns : goal.returns
 returns g c =
     let z = c.args.zone.now in
     let asked = λ (x : Feed). asked_from (content_of_parts x) (zone_origin z) c.args.times 1 (map (λ l. l.now) c.args.lines.now) in
+    let before : Output = record { told = g.O.Out.told c.args.out.now; failures = g.O.Out.failure_count c.args.out.now } in
+    let after : Output = record { told = g.O.Out.told c.print_requests.new.out; failures = g.O.Out.failure_count c.print_requests.new.out } in
     let printed = subst (λ (x : Feed). PrintsText (AreAllBoards (content_of_parts x) z (asked x)) (StopsInAll BeginsBoard (content_of_parts x) z (asked x))
-    (or_none (StopsInAll BeginsWhole (content_of_parts x) z (asked x))) (λ _. ⊥) _ _ c.print_requests.result) c.in_ok-index.ensures.feed c.print_requests.ensures in
+    (or_none (StopsInAll BeginsWhole (content_of_parts x) z (asked x))) (λ _. ⊥) before after c.print_requests.result) c.in_ok-index.ensures.feed c.print_requests.ensures in
     prints-as _ _ _ _ _ _ _ _ _ _ c.print_requests.result (λ t h. h) (λ t h. h) (λ t h. h) (no-cause (IsRequestsFault (asked c.args.feed.now))) printed

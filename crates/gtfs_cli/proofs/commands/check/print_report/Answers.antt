@@ -1,5 +1,6 @@
 use Rattle.std.proofs.Common.{Err, inl, inr, map, not, refl, subst, arith}
 use Rattle.gtfs_table.specs.Tables.{Dataset}
+use Rattle.gtfs_table.specs.declared.tables.Tables.{Tables}
 use Rattle.gtfs_columns.specs.Problems.{passes, IsReport}
 use Rattle.gtfs_columns.specs.View.{problem_of}
 use Rattle.gtfs_rules.specs.Report.{report_text}
@@ -9,8 +10,8 @@ use Rattle.gtfs_cli.specs.Plan.{Ends}
 use Rattle.gtfs_cli.specs.Refusals.{IsTablesCause}
 use Rattle.gtfs_cli.specs.declared.commands.refusal.Refusal.{Refusal}
 use Rattle.gtfs_cli.specs.declared.commands.refusal.Refusal.TheVariants.{OutOfMemory}
-use Rattle.gtfs_cli.proofs.Plans.{ends-checked, ends-refused, err-up-check, none-left, not-failed}
-use Rattle.gtfs_cli.proofs.ReadsThen.{asks-done, asks-up}
+use Rattle.gtfs_cli.proofs.Plans.{ends-checked, err-up-check, not-failed, prints-none}
+use Rattle.gtfs_cli.proofs.ReadsThen.{asks-done}
 use Rattle.gtfs_cli.proofs.commands.check.print_report.Goals as goal
 
 pub returns-in_err-tables : goal.returns-in_err-tables
@@ -22,9 +23,9 @@ returns-in_err-tables g c =
     let bad = c.in_err-tables.ensures.refused in
     let reads = c.in_err-tables.ensures.reads in
     err-up-check c.from_residual.result r (Ends (check_plan limit held dir) _ _) c.from_residual.ensures.1
-    (ends-refused (check_plan limit held dir) _ _ _ r
-    (none-left held _ (followed_by (tables limit held dir) sending) _ _ _ 10 reads.unchanged r (λ is. subst (λ (e : Refusal). IsTablesCause limit held dir _ _ e) is bad))
-    (inl (inl bad)) (asks-up 10 10 _ _ (Err r) r (omega arith) refl reads.asks))
+    (prints-none held (followed_by (tables limit held dir) sending) _ _ _ 10 _ _ _ r reads.unchanged
+    (λ is. subst (λ (e : Refusal). IsTablesCause limit held dir (g.F.Folders.failure_count c.args.folders.now) (g.F.Folders.failure_count c.read_tables.new.folders) e) is bad)
+    (inl (inl bad)) 10 (omega arith) reads.asks)
 
 pub returns-in_err-report : goal.returns-in_err-report
 returns-in_err-report g c =
@@ -33,9 +34,8 @@ returns-in_err-report g c =
     let dir = c.args.dir.now in
     let reads = c.in_ok-tables.ensures.reads in
     err-up-check c.from_residual-in_err-report.result OutOfMemory (Ends (check_plan limit held dir) _ _) c.from_residual-in_err-report.ensures.1
-    (ends-refused (check_plan limit held dir) _ _ _ OutOfMemory
-    (none-left held _ (followed_by (tables limit held dir) sending) _ _ _ 10 reads.unchanged OutOfMemory (not-failed OutOfMemory refl))
-    (inr (refl, (reads.asks.no_failure, refl))) (asks-done 10 _ _ c.in_ok-tables.tables (Err OutOfMemory) reads.asks))
+    (prints-none held (followed_by (tables limit held dir) sending) _ _ _ 10 _ _ _ OutOfMemory reads.unchanged (not-failed OutOfMemory refl)
+    (inr (refl, (reads.asks.no_failure, refl))) {T = Tables} 10 (omega arith) (asks-done 10 _ _ c.in_ok-tables.tables (Err OutOfMemory) reads.asks))
 
 pub returns : goal.returns
 returns g c =
@@ -43,7 +43,7 @@ returns g c =
     let held = g.F.Folders.held c.args.folders.now in
     let dir = c.args.dir.now in
     let reads = c.in_ok-tables.ensures.reads in
-    let holds = c.in_ok-tables.ensures.read in
+    let holds = c.in_ok-tables.ensures.whole in
     let ps = map problem_of c.problems.result.now in
     let is_report = subst (λ (d : Dataset). IsReport d ps) c.in_ok-report.ensures.dataset c.problems.ensures.report in
     ends-checked _ _ _ _ (followed_by (tables limit held dir) sending) (IsReportOf limit held dir) (report_text ps) 10 reads.unchanged

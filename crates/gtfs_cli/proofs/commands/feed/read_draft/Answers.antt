@@ -1,7 +1,6 @@
-use Rattle.std.proofs.Common.{arith}
 use Rattle.gtfs_cli.specs.Refusals.{IsReadingCause}
 use Rattle.gtfs_cli.proofs.FoldersRead.{feed-cause, tables-cause}
-use Rattle.gtfs_cli.proofs.ReadsThen.{reads-done, reads-up, told-up}
+use Rattle.gtfs_cli.proofs.ReadsThen.{reads-done, told-up}
 use Rattle.gtfs_cli.proofs.commands.feed.read_draft.Goals as goal
 
 pub returns-in_err-tables-clause-refused : goal.returns-in_err-tables-clause-refused
@@ -12,9 +11,6 @@ returns-in_err-tables-clause-refused g c =
     let r = c.in_err-tables.field-0.0 in
     told-up c.from_residual.result r (IsReadingCause (F.limit old) (F.held old) c.args.dir.now (F.failure_count old) (F.failure_count new)) c.from_residual.ensures.1
     (tables-cause (F.limit old) (F.held old) c.args.dir.now (F.failure_count old) (F.failure_count new) r c.in_err-tables.ensures.refused)
-
-pub returns-in_err-tables-clause-reads : goal.returns-in_err-tables-clause-reads
-returns-in_err-tables-clause-reads g c = reads-up 10 10 _ _ c.from_residual.result c.in_err-tables.field-0.0 (omega arith) c.from_residual.ensures.1 c.in_err-tables.ensures.reads
 
 pub returns-in_err-draft-clause-refused : goal.returns-in_err-draft-clause-refused
 returns-in_err-draft-clause-refused g c =

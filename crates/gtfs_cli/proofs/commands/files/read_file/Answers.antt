@@ -1,29 +1,11 @@
-use Rattle.std.proofs.Common.{◌<◌, ◌∙◌, ap, arith, length, refl, sym, subst, Err}
+use Rattle.std.proofs.Common.{◌<◌, ◌∙◌, ap, arith, length, sym, subst, Err}
 use Rattle.std.proofs.lemmas.Bool.{eqb-false}
 use Rattle.gtfs_devices.specs.Folder.{RefusesRead}
 use Rattle.gtfs_devices.specs.declared.folders.FolderFault.{FolderFault}
-use Rattle.gtfs_cli.specs.declared.commands.refusal.Refusal.TheVariants.{Unreadable}
 use Rattle.gtfs_cli.proofs.CallsMade.{so-many}
 use Rattle.gtfs_cli.proofs.FoldersRead.{file-cause}
-use Rattle.gtfs_cli.proofs.ReadsThen.{asks-fault, asks-made, reads-none}
+use Rattle.gtfs_cli.proofs.ReadsThen.{asks-fault}
 use Rattle.gtfs_cli.proofs.commands.files.read_file.Goals as goal
-
-pub returns-then-is_empty-clause-reads : goal.returns-then-is_empty-clause-reads
-returns-then-is_empty-clause-reads g c = reads-none 1 _ _ (Unreadable c.args.path) refl
-
-pub returns-in-Ok-Some-clause-reads : goal.returns-in-Ok-Some-clause-reads
-returns-in-Ok-Some-clause-reads g c = record {
-  unchanged = c.read.ensures.unchanged;
-  same_limit = c.read.ensures.same_limit;
-  asks = asks-made 1 _ _ _ c.in-Ok-Some.ensures.no_failure c.read.ensures.called;
-}
-
-pub returns-in-Ok-None-clause-reads : goal.returns-in-Ok-None-clause-reads
-returns-in-Ok-None-clause-reads g c = record {
-  unchanged = c.read.ensures.unchanged;
-  same_limit = c.read.ensures.same_limit;
-  asks = asks-made 1 _ _ _ c.in-Ok-None.ensures.no_failure c.read.ensures.called;
-}
 
 pub returns-in-Err-clause-refused : goal.returns-in-Err-clause-refused
 returns-in-Err-clause-refused g c =

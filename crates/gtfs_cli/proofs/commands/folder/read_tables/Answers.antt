@@ -1,20 +1,9 @@
-use Rattle.std.proofs.Common.{◌<◌, ap, length, refl, rules, subst, Err}
+use Rattle.std.proofs.Common.{◌<◌, ap, length, rules, subst, Err}
 use Rattle.gtfs_devices.specs.declared.folders.FolderFault.{FolderFault}
 use Rattle.gtfs_table.specs.Reading.{RefusesDataset}
-use Rattle.gtfs_cli.specs.declared.commands.refusal.Refusal.TheVariants.{NotThere}
 use Rattle.gtfs_cli.proofs.CallsMade.{some-calls}
-use Rattle.gtfs_cli.proofs.ReadsThen.{asks-fault, asks-made, reads-none}
+use Rattle.gtfs_cli.proofs.ReadsThen.{asks-fault}
 use Rattle.gtfs_cli.proofs.commands.folder.read_tables.Goals as goal
-
-pub returns-then-is_empty-clause-reads : goal.returns-then-is_empty-clause-reads
-returns-then-is_empty-clause-reads g c = reads-none 10 _ _ (NotThere c.args.dir) refl
-
-pub returns-in-Ok-clause-reads : goal.returns-in-Ok-clause-reads
-returns-in-Ok-clause-reads g c = record {
-  unchanged = c.read_in.ensures.unchanged;
-  same_limit = c.read_in.ensures.same_limit;
-  asks = asks-made 10 _ _ _ c.in-Ok.ensures.no_failure c.in-Ok.ensures.called;
-}
 
 pub returns-in-Err-clause-refused : goal.returns-in-Err-clause-refused
 returns-in-Err-clause-refused g c =

@@ -8,9 +8,9 @@ use Rattle.gtfs_cli.specs.MergeParts.{merge_request_of}
 use Rattle.gtfs_cli.specs.Merges.{IsFoldersCause}
 use Rattle.gtfs_cli.specs.Refusals.{IsReadingCause}
 use Rattle.gtfs_cli.specs.declared.commands.refusal.Refusal.TheVariants.{OutOfMemory}
+use Rattle.gtfs_cli.proofs.FoldersRead.{has-passing}
 use Rattle.gtfs_cli.proofs.MergeValues.{cutoff-day, near-bound}
 use Rattle.gtfs_cli.proofs.ReadsThen.{reads-back, reads-done, reads-then, reads-up, told-up}
-use Rattle.gtfs_cli.proofs.BoardParts.{has-passing}
 use Rattle.gtfs_cli.proofs.Unmerged.{is-merged, unmerged-by}
 use Rattle.gtfs_cli.proofs.commands.merge.merge_folders.Goals as goal
 
@@ -29,9 +29,6 @@ returns-in_err-draft-clause-refused g c =
     let r = c.in_err-draft.field-0.0 in
     told-up c.from_residual.result r (IsFoldersCause (F.limit old) (F.held old) (merge_texts_of c.args.words.now) (F.failure_count old) (F.failure_count c.read_draft.new.folders))
     c.from_residual.ensures.1 (inl c.in_err-draft.ensures.refused)
-
-pub returns-in_err-draft-clause-reads : goal.returns-in_err-draft-clause-reads
-returns-in_err-draft-clause-reads g c = reads-up 10 20 _ _ c.from_residual.result c.in_err-draft.field-0.0 (omega arith) c.from_residual.ensures.1 c.in_err-draft.ensures.reads
 
 pub returns-in_err-a-clause-refused : goal.returns-in_err-a-clause-refused
 returns-in_err-a-clause-refused g c =

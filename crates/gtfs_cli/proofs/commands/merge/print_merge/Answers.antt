@@ -1,4 +1,4 @@
-use Rattle.std.proofs.Common.{◌∙◌, Err, Option, inl, inr, refl, subst, sym, arith}
+use Rattle.std.proofs.Common.{Bool, Err, Option, inl, refl, subst, arith}
 use Rattle.gtfs_devices.specs.Folder.{Store}
 use Rattle.gtfs_table.specs.Reading.{kept_files}
 use Rattle.gtfs_rows.specs.Views.{content_of_parts}
@@ -14,7 +14,7 @@ use Rattle.gtfs_cli.specs.Refusals.{TellsFolders}
 use Rattle.gtfs_cli.specs.declared.commands.refusal.Refusal.{Refusal}
 use Rattle.gtfs_cli.proofs.Plans.{ends-refused, err-up}
 use Rattle.gtfs_cli.proofs.ReadBack.{reads-again}
-use Rattle.gtfs_cli.proofs.ReadsThen.{asks-done, asks-none, asks-then, asks-up}
+use Rattle.gtfs_cli.proofs.ReadsThen.{asks-done, asks-none, asks-then}
 use Rattle.gtfs_cli.proofs.Unmerged.{ends-merged, folders-cause, no-folders-cause, no-written-folders, none-bad-merge, none-merged, writing-cause, writing-left}
 use Rattle.gtfs_cli.proofs.commands.merge.print_merge.Goals as goal
 
@@ -29,22 +29,24 @@ returns-in_err-values g c =
     (ends-refused (merge_plan limit held asked) _ _ _ r
     (none-merged limit held asked held refl r (λ is. subst (λ (e : Refusal). IsFirstBad (judged_merge asked) e) is bad)
     (λ path is. subst (λ (e : Refusal). IsFirstBad (judged_merge asked) e) is bad))
-    (inl (inl bad)) (asks-none 29 _ (Err r) r refl))
+    (inl (inl bad)) {T = Bool} 0 (omega arith) (asks-none 0 _ (Err r) r refl))
 
 pub returns-in_err-merged : goal.returns-in_err-merged
 returns-in_err-merged g c =
     let limit = g.F.Folders.limit c.args.folders.now in
     let held = g.F.Folders.held c.args.folders.now in
     let asked = merge_texts_of c.args.words.now in
+    let x = g.F.Folders.failure_count c.args.folders.now in
+    let y = g.F.Folders.failure_count c.merge_folders.new.folders in
     let r = c.in_err-merged.field-0.0 in
     let bad = c.in_err-merged.ensures.refused in
     let reads = c.in_err-merged.ensures.reads in
     let none = none-bad-merge asked (merge_request_of c.in_ok-values.values) c.in_ok-values.ensures.read in
     err-up c.from_residual-in_err-merged.result r (Ends (merge_plan limit held asked) _ _) c.from_residual-in_err-merged.ensures.1
     (ends-refused (merge_plan limit held asked) _ _ _ r
-    (none-merged limit held asked _ reads.unchanged r (λ is. no-folders-cause limit held asked _ _ (subst (λ (e : Refusal). IsFoldersCause limit held asked _ _ e) is bad))
-    (λ path is. no-written-folders limit held asked _ _ path (subst (λ (e : Refusal). IsFoldersCause limit held asked _ _ e) is bad)))
-    (folders-cause limit held asked _ _ none r bad) (asks-up 20 29 _ _ (Err r) r (omega arith) refl reads.asks))
+    (none-merged limit held asked _ reads.unchanged r (λ is. no-folders-cause limit held asked x y (subst (λ (e : Refusal). IsFoldersCause limit held asked x y e) is bad))
+    (λ path is. no-written-folders limit held asked x y path (subst (λ (e : Refusal). IsFoldersCause limit held asked x y e) is bad)))
+    (folders-cause limit held asked _ _ none r bad) 20 (omega arith) reads.asks)
 
 pub returns-in_err-write_feed : goal.returns-in_err-write_feed
 returns-in_err-write_feed g c =
@@ -67,7 +69,7 @@ returns-in_err-write_feed g c =
     err-up c.from_residual-in_err-write_feed.result r (Ends (merge_plan limit held asked) _ _) c.from_residual-in_err-write_feed.ensures.1
     (ends-refused (merge_plan limit held asked) _ _ _ r (writing-left limit held asked f report c.in_ok-merged.ensures.merged x y now r ends)
     (writing-cause limit held asked _ _ none f report c.in_ok-merged.ensures.merged held now r
-    (λ is. (subst (λ (e : Refusal). TellsFolders x y e) is all.told, refl)) ends) all)
+    (λ is. (subst (λ (e : Refusal). TellsFolders x y e) is all.told, refl)) ends) 29 (omega arith) all)
 
 pub returns : goal.returns
 returns g c =

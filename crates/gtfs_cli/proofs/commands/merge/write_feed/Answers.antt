@@ -10,9 +10,8 @@ use Rattle.gtfs_table.specs.declared.file.File.TheVariants as file
 use Rattle.gtfs_rows.specs.Views.{content_of_parts}
 use Rattle.gtfs_cli.specs.MergeParts.{ReadsAs}
 use Rattle.gtfs_cli.specs.Merges.{IsWritingEnd}
-use Rattle.gtfs_cli.specs.declared.commands.refusal.Refusal.TheVariants.{Unwritable}
 use Rattle.gtfs_cli.proofs.Filed.{file-ends, file-held, files-held, none-held}
-use Rattle.gtfs_cli.proofs.ReadsThen.{asks-as, asks-made, asks-none, asks-then, asks-up, told-up}
+use Rattle.gtfs_cli.proofs.ReadsThen.{asks-as, asks-made, asks-then, asks-up, told-up}
 use Rattle.gtfs_cli.proofs.commands.merge.write_feed.Goals as goal
 
 pub loop-file-init : goal.loop-file-init
@@ -31,9 +30,6 @@ loop-file-preserved g c = record {
   asks = asks-then c.loop-file.file-index 1 _ _ _ _ _ c.loop-file.invariant.asks c.in_ok-write_file.ensures.asks;
   within = omega (arith, c.loop-file-test.true);
 }
-
-pub returns-then-is_empty-clause-asks : goal.returns-then-is_empty-clause-asks
-returns-then-is_empty-clause-asks g c = asks-none 9 _ _ (Unwritable c.args.dir) refl
 
 pub returns-clause-written : goal.returns-clause-written
 returns-clause-written g c =

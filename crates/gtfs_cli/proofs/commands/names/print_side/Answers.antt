@@ -24,7 +24,8 @@ pub loop-number-preserved : goal.loop-number-preserved
 loop-number-preserved g c =
     let line = line-of c.args.names.now c.args.side c.args.kind c.loop-number.number c.ids-ids.result.now _ c.by_number-name.result.now _ c.ids-ids.ensures c.by_number-name.ensures.of_id
     (c.as_str.ensures ∙ c.index-ids-number.is) c.loop-number-test.true in
-    item-sent (id_line c.args.names.now c.args.side c.args.kind) c.ids-ids.result.now c.loop-number.number c.index-ids-number.result _ line c.loop-number-test.true _ _ _ _
+    let item = named_line c.args.side c.args.kind c.as_str.result.now (Some c.by_number-name.result.now) in
+    item-sent (id_line c.args.names.now c.args.side c.args.kind) c.ids-ids.result.now c.loop-number.number c.index-ids-number.result item line c.loop-number-test.true _ _ _ _
     c.loop-number.invariant c.in_ok-print_id.ensures.sent
 
 pub returns : goal.returns
@@ -40,8 +41,9 @@ returns-in_err-print_id g c =
     let lines = id_line c.args.names.now c.args.side c.args.kind in
     let line = line-of c.args.names.now c.args.side c.args.kind c.loop-number.number c.ids-ids.result.now _ c.by_number-name.result.now _ c.ids-ids.ensures c.by_number-name.ensures.of_id
     (c.as_str.ensures ∙ c.index-ids-number.is) c.loop-number-test.true in
+    let item = named_line c.args.side c.args.kind c.as_str.result.now (Some c.by_number-name.result.now) in
     record {
       sent = sent-same (flat_map lines c.ids-ids.result.now) (side_lines c.args.names.now c.args.side c.args.kind) _ _ _ (ap (flat_map lines) c.ids-ids.ensures)
-          (item-failed lines c.ids-ids.result.now c.loop-number.number c.index-ids-number.result _ line c.loop-number-test.true _ _ _ _
+          (item-failed lines c.ids-ids.result.now c.loop-number.number c.index-ids-number.result item line c.loop-number-test.true _ _ _ _
           c.from_residual.result c.from_residual.ensures.1 c.loop-number.invariant c.in_err-print_id.ensures.sent);
     }

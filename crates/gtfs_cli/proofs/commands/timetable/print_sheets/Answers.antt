@@ -1,4 +1,4 @@
-use Rattle.std.proofs.Common.{◌∙◌, ap, inl, inr, map, refl, subst}
+use Rattle.std.proofs.Common.{◌∙◌, ap, inl, map, refl, subst}
 use Rattle.std.specs.Prelude.{flat_map}
 use Rattle.gtfs_rows.specs.Views.{content_of_parts}
 use Rattle.gtfs_board.specs.LentSheets.{plain_sheet}

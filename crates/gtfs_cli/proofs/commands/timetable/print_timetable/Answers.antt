@@ -1,4 +1,4 @@
-use Rattle.std.proofs.Common.{Err, inl, inr, refl, subst, arith}
+use Rattle.std.proofs.Common.{Bool, Err, inl, inr, refl, subst, arith}
 use Rattle.gtfs_commands.specs.Words.{timetable_texts_of}
 use Rattle.gtfs_cli.specs.Judging.{IsFirstBad}
 use Rattle.gtfs_cli.specs.Plan.{Ends}
@@ -7,8 +7,8 @@ use Rattle.gtfs_cli.specs.Sending.{Begins}
 use Rattle.gtfs_cli.specs.TimetableOptions.{judged_timetable}
 use Rattle.gtfs_cli.specs.Timetables.{timetable_judges, timetable_plan, timetable_request_of, IsTimetableText}
 use Rattle.gtfs_cli.specs.declared.commands.refusal.Refusal.{Refusal}
-use Rattle.gtfs_cli.proofs.Plans.{ends-printed, ends-refused, err-up, none-left}
-use Rattle.gtfs_cli.proofs.ReadsThen.{asks-done, asks-none, asks-up}
+use Rattle.gtfs_cli.proofs.Plans.{ends-printed, err-up, prints-none}
+use Rattle.gtfs_cli.proofs.ReadsThen.{asks-done, asks-none}
 use Rattle.gtfs_cli.proofs.Tabled.{cause-of, none-bad-timetable, part-of, text-of}
 use Rattle.gtfs_cli.proofs.commands.timetable.print_timetable.Goals as goal
 
@@ -20,9 +20,8 @@ returns-in_err-values g c =
     let r = c.in_err-values.field-0.0 in
     let bad = c.in_err-values.ensures.refused in
     err-up c.from_residual.result r (Ends (timetable_plan limit held asked) _ _) c.from_residual.ensures.1
-    (ends-refused (timetable_plan limit held asked) _ _ _ r
-    (none-left held held (timetable_judges limit held asked) _ _ _ 10 refl r (λ is. subst (λ (e : Refusal). IsFirstBad (judged_timetable asked) e) is bad))
-    (inl (inl bad)) (asks-none 10 _ (Err r) r refl))
+    (prints-none held (timetable_judges limit held asked) _ _ _ 10 _ _ _ r refl (λ is. subst (λ (e : Refusal). IsFirstBad (judged_timetable asked) e) is bad)
+    (inl (inl bad)) {T = Bool} 0 (omega arith) (asks-none 0 _ (Err r) r refl))
 
 pub returns-in_err-feed : goal.returns-in_err-feed
 returns-in_err-feed g c =
@@ -33,10 +32,9 @@ returns-in_err-feed g c =
     let bad = c.in_err-feed.ensures.refused in
     let reads = c.in_err-feed.ensures.reads in
     err-up c.from_residual-in_err-feed.result r (Ends (timetable_plan limit held asked) _ _) c.from_residual-in_err-feed.ensures.1
-    (ends-refused (timetable_plan limit held asked) _ _ _ r
-    (none-left held _ (timetable_judges limit held asked) _ _ _ 10 reads.unchanged r (λ is. subst (λ (e : Refusal). IsReadingCause limit held asked.dir _ _ e) is bad))
-    (inl (inr (none-bad-timetable asked (timetable_request_of c.in_ok-values.values) c.in_ok-values.ensures.read, inl bad)))
-    (asks-up 10 10 _ _ (Err r) r (omega arith) refl reads.asks))
+    (prints-none held (timetable_judges limit held asked) _ _ _ 10 _ _ _ r reads.unchanged
+    (λ is. subst (λ (e : Refusal). IsReadingCause limit held asked.dir (g.F.Folders.failure_count c.args.folders.now) (g.F.Folders.failure_count c.read_feed.new.folders) e) is bad)
+    (inl (inr (none-bad-timetable asked (timetable_request_of c.in_ok-values.values) c.in_ok-values.ensures.read, inl bad))) 10 (omega arith) reads.asks)
 
 pub returns : goal.returns
 returns g c =

@@ -1,9 +1,9 @@
-use Rattle.std.proofs.Common.{List, ℕ, arith, subst, sym}
+use Rattle.std.proofs.Common.{List, ℕ, subst, sym}
 use Rattle.std.proofs.lemmas.Result.{IfErr-weaker}
 use Rattle.gtfs_cli.specs.FileRead.{IsZoneCause}
 use Rattle.gtfs_cli.specs.HeldFiles.{HoldsBytes}
 use Rattle.gtfs_cli.proofs.FoldersRead.{path-cause}
-use Rattle.gtfs_cli.proofs.ReadsThen.{reads-done, reads-up, told-up}
+use Rattle.gtfs_cli.proofs.ReadsThen.{told-up}
 use Rattle.gtfs_cli.proofs.commands.zone_file.read_zone.Goals as goal
 
 pub returns-in_err-bytes-clause-refused : goal.returns-in_err-bytes-clause-refused
@@ -15,9 +15,6 @@ returns-in_err-bytes-clause-refused g c =
     told-up c.from_residual.result r (IsZoneCause (F.limit old) (F.held old) c.args.path.now (F.failure_count old) (F.failure_count new)) c.from_residual.ensures.1
     (path-cause (F.limit old) (F.held old) c.args.path.now (F.failure_count old) (F.failure_count new) r c.in_err-bytes.ensures.refused)
 
-pub returns-in_err-bytes-clause-reads : goal.returns-in_err-bytes-clause-reads
-returns-in_err-bytes-clause-reads g c = reads-up 1 1 _ _ c.from_residual.result c.in_err-bytes.field-0.0 (omega arith) c.from_residual.ensures.1 c.in_err-bytes.ensures.reads
-
 pub returns-clause-refused : goal.returns-clause-refused
 returns-clause-refused g c =
     let F = g.F.Folders in
@@ -26,6 +23,3 @@ returns-clause-refused g c =
     IfErr-weaker c.zone_of.result _ _
     (λ e h. h (F.limit old) (F.held old) (F.failure_count old) (F.failure_count c.read_file.new.folders) read c.in_ok-bytes.ensures.reads.asks.no_failure)
     c.zone_of.ensures.refused
-
-pub returns-clause-reads : goal.returns-clause-reads
-returns-clause-reads g c = reads-done 1 _ _ _ c.zone_of.result c.in_ok-bytes.ensures.reads
