@@ -65,13 +65,26 @@ def is_built(digest):
     return os.path.isfile(PROGRAM) and os.path.isfile(DIGEST) and read(DIGEST).decode() == digest
 
 
+def link_or_copy(path, to):
+    """What was built takes gigabytes, so it is shared where it can be. `rt` never writes into it: it builds a library anew."""
+    try:
+        os.link(path, to)
+    except OSError:
+        shutil.copy2(path, to)
+
+
+def copy_crate(crate, room):
+    """Copies the sources of a library, and what was built of it."""
+    for part, copied in (*((part, shutil.copy2) for part in PARTS), (os.path.join("out", "rlib"), link_or_copy)):
+        folder = os.path.join("crates", crate, part)
+        if os.path.isdir(os.path.join(ROOT, folder)):
+            shutil.copytree(os.path.join(ROOT, folder), os.path.join(room, folder), copy_function=copied)
+
+
 def copy_into(room, lines, crates):
     """Lays out the copy: the libraries below the program as they are built, and the program as a crate."""
     for crate in crates:
-        for part in (*PARTS, os.path.join("out", "rlib")):
-            folder = os.path.join("crates", crate, part)
-            if os.path.isdir(os.path.join(ROOT, folder)):
-                shutil.copytree(os.path.join(ROOT, folder), os.path.join(room, folder))
+        copy_crate(crate, room)
     source = os.path.join(room, "crates", NAME, "src")
     os.makedirs(source)
     for name in os.listdir(SOURCES):
