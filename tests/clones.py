@@ -215,12 +215,14 @@ def write(path, text, mode=0o644):
 
 
 def copy(path, to):
-    """Copies a file or a folder of files."""
+    """Copies a file or a folder of files, which may be written then, also where this repository may only be read."""
     if os.path.isdir(path):
         shutil.copytree(path, to)
     else:
         os.makedirs(os.path.dirname(to), exist_ok=True)
         shutil.copy(path, to)
+    for copied in [to, *(os.path.join(to, name) for name in (os.listdir(to) if os.path.isdir(to) else ()))]:
+        os.chmod(copied, os.stat(copied).st_mode | 0o200)
 
 
 def touch(path, seconds):
