@@ -446,11 +446,6 @@ fn the_lanes_of_other_datasets_have_their_events(rt: HostRuntime) -> Result<(), 
         let feed = feed_with(&rt, rt.alloc(), files)?;
         assert_unions(&rt, rt.alloc(), &feed)?;
     }
-    Ok(())
-}
-
-#[test]
-fn the_lanes_of_made_feeds_have_their_events(rt: HostRuntime) -> Result<(), Fail> {
     for number in 0..6 {
         let feed = made_feed(&rt, rt.alloc(), number)?;
         assert_unions(&rt, rt.alloc(), &feed)?;

@@ -13,6 +13,7 @@ use gtfs_rows::{
 };
 use std::alloc::Global;
 use std::mem::size_of;
+use std::process::Abort;
 use std::test::Fail;
 
 // The text of a stop time's headsign, or nothing.
@@ -80,12 +81,10 @@ fn a_stop_time_has_32_bytes(rt: HostRuntime) {
     assert_is(&rt, size_of::<StopRow>(), 32, "bytes");
 }
 
-#[test]
-fn frequencies_stand_by_start(rt: HostRuntime) -> Result<(), Fail> {
-    let feed = feed_with(&rt, rt.alloc(), &FULL)?;
-    assert_count(&rt, feed.trip_count(), 2, "trips");
+fn assert_frequencies(rt: &impl Abort, feed: &Feed) {
+    assert_count(rt, feed.trip_count(), 2, "trips");
     let first = feed.trip_frequencies(TripNo(0));
-    assert_holds(&rt, first.is_empty(), "none of the first trip");
+    assert_holds(rt, first.is_empty(), "none of the first trip");
     let wanted = [
         Frequency {
             start_time: Clock::from_seconds(21_600),
@@ -101,107 +100,106 @@ fn frequencies_stand_by_start(rt: HostRuntime) -> Result<(), Fail> {
         },
     ];
     let second = feed.trip_frequencies(TripNo(1));
-    assert_holds(&rt, second == wanted.as_slice(), "those of the second trip");
-    Ok(())
+    assert_holds(rt, second == wanted.as_slice(), "those of the second trip");
 }
 
 // D1 is known by its days alone: 1 May 2024 has number 19,844.
-#[test]
-fn a_service_may_have_days_alone(rt: HostRuntime) -> Result<(), Fail> {
-    let feed = feed_with(&rt, rt.alloc(), &FULL)?;
-    assert_count(&rt, feed.service_count(), 2, "services");
+fn assert_services(rt: &impl Abort, feed: &Feed) {
+    assert_count(rt, feed.service_count(), 2, "services");
     assert_is(
-        &rt,
+        rt,
         feed.service_id(ServiceNo(1)),
         "D1",
         "the second service",
     );
     let service = feed.service_by_number(ServiceNo(1));
-    assert_holds(&rt, service.week().is_none(), "no week");
+    assert_holds(rt, service.week().is_none(), "no week");
     let exceptions = [
         (Day::from_number(19_844), Exception::Added),
         (Day::from_number(19_845), Exception::Removed),
     ];
     let found = service.exceptions();
-    assert_holds(&rt, found == exceptions.as_slice(), "exceptions");
+    assert_holds(rt, found == exceptions.as_slice(), "exceptions");
     let first = feed.service_by_number(ServiceNo(0));
-    assert_holds(&rt, first.week().is_some(), "a week of the first service");
-    Ok(())
+    assert_holds(rt, first.week().is_some(), "a week of the first service");
 }
 
 fn units_of(coordinate: Option<Coord>) -> Option<i64> {
     Some(coordinate?.nanodegrees())
 }
 
-#[test]
-fn a_stop_has_its_values(rt: HostRuntime) -> Result<(), Fail> {
-    let feed = feed_with(&rt, rt.alloc(), &FULL)?;
-    assert_count(&rt, feed.stop_count(), 3, "stops");
+fn assert_stops(rt: &impl Abort, feed: &Feed) {
+    assert_count(rt, feed.stop_count(), 3, "stops");
     let stop = feed.stop_by_number(StopNo(1));
     let Some(name) = &stop.stop_name else {
         panic!(rt; "no name");
     };
-    assert_is(&rt, name.as_str(), "Mi ll", "the name");
+    assert_is(rt, name.as_str(), "Mi ll", "the name");
     let latitude = units_of(stop.stop_lat);
-    assert_is(&rt, latitude, Some(-52_500_000_000), "the latitude");
-    assert_is(&rt, stop.location_type, LocationType::Stop, "the type");
-    assert_is(&rt, stop.parent_station, Some(StopNo(0)), "the parent");
+    assert_is(rt, latitude, Some(-52_500_000_000), "the latitude");
+    assert_is(rt, stop.location_type, LocationType::Stop, "the type");
+    assert_is(rt, stop.parent_station, Some(StopNo(0)), "the parent");
     let station = feed.stop_by_number(StopNo(0));
     assert_is(
-        &rt,
+        rt,
         station.location_type,
         LocationType::Station,
         "the station",
     );
     assert_is(
-        &rt,
+        rt,
         station.parent_station,
         None,
         "the parent of the station",
     );
-    assert_holds(&rt, station.stop_code.is_none(), "no code of the station");
-    Ok(())
+    assert_holds(rt, station.stop_code.is_none(), "no code of the station");
 }
 
 // An empty agency is the only one, and empty colours have their meaning.
-#[test]
-fn a_route_has_its_values(rt: HostRuntime) -> Result<(), Fail> {
-    let feed = feed_with(&rt, rt.alloc(), &FULL)?;
-    assert_count(&rt, feed.route_count(), 1, "routes");
+fn assert_routes(rt: &impl Abort, feed: &Feed) {
+    assert_count(rt, feed.route_count(), 1, "routes");
     let route = feed.route_by_number(RouteNo(0));
-    assert_is(&rt, feed.agency("A1"), Some(route.agency_id), "the agency");
-    assert_is(&rt, route.route_type.number(), 700, "the type");
-    assert_is(&rt, route.route_color.bits(), 0x00_FF7F, "the colour");
+    assert_is(rt, feed.agency("A1"), Some(route.agency_id), "the agency");
+    assert_is(rt, route.route_type.number(), 700, "the type");
+    assert_is(rt, route.route_color.bits(), 0x00_FF7F, "the colour");
     assert_is(
-        &rt,
+        rt,
         route.route_text_color.bits(),
         0,
         "the colour of the text",
     );
-    assert_is(&rt, route.route_sort_order, Some(7), "the sort order");
-    assert_holds(&rt, route.route_short_name.is_none(), "no short name");
-    Ok(())
+    assert_is(rt, route.route_sort_order, Some(7), "the sort order");
+    assert_holds(rt, route.route_short_name.is_none(), "no short name");
 }
 
-#[test]
-fn transfers_stand_by_their_keys(rt: HostRuntime) -> Result<(), Fail> {
-    let feed = feed_with(&rt, rt.alloc(), &FULL)?;
+fn assert_transfers(rt: &impl Abort, feed: &Feed) {
     let [stay, between, within] = feed.transfers() else {
         panic!(rt; "{} transfers", feed.transfers().len());
     };
-    assert_is(&rt, stay.from_trip_id, Some(TripNo(0)), "from a trip");
-    assert_is(&rt, stay.to_trip_id, Some(TripNo(1)), "to a trip");
-    assert_is(&rt, stay.from_stop_id, None, "from no stop");
-    assert_is(&rt, stay.transfer_type, TransferType::InSeat, "stay");
-    assert_is(&rt, between.from_stop_id, Some(StopNo(0)), "between");
+    assert_is(rt, stay.from_trip_id, Some(TripNo(0)), "from a trip");
+    assert_is(rt, stay.to_trip_id, Some(TripNo(1)), "to a trip");
+    assert_is(rt, stay.from_stop_id, None, "from no stop");
+    assert_is(rt, stay.transfer_type, TransferType::InSeat, "stay");
+    assert_is(rt, between.from_stop_id, Some(StopNo(0)), "between");
     assert_is(
-        &rt,
+        rt,
         between.transfer_type,
         TransferType::Recommended,
         "between",
     );
-    assert_is(&rt, between.min_transfer_time, None, "no time between");
-    assert_is(&rt, within.from_stop_id, Some(StopNo(1)), "within");
-    assert_is(&rt, within.min_transfer_time, Some(120), "the time within");
+    assert_is(rt, between.min_transfer_time, None, "no time between");
+    assert_is(rt, within.from_stop_id, Some(StopNo(1)), "within");
+    assert_is(rt, within.min_transfer_time, Some(120), "the time within");
+}
+
+// Frequencies stand by their starts, transfers by their keys, and empty values have their meaning.
+#[test]
+fn rows_have_their_values(rt: HostRuntime) -> Result<(), Fail> {
+    let feed = feed_with(&rt, rt.alloc(), &FULL)?;
+    assert_frequencies(&rt, &feed);
+    assert_services(&rt, &feed);
+    assert_stops(&rt, &feed);
+    assert_routes(&rt, &feed);
+    assert_transfers(&rt, &feed);
     Ok(())
 }
