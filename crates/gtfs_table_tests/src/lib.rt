@@ -5,7 +5,7 @@
 //!   many fields and with long ones; `record_lengths` are records about the lengths at
 //!   which they are kept in another way.
 //! - `memory_folders` and `disk_folders` are the two devices that hold folders,
-//!   and `outputs` those that take text; `lending` is what both lend to a reader.
+//!   and `outputs` those that take text.
 //! - `given_memory` are folders that are read in memory that is handed in.
 //! - `sizes` are outputs, files, folders and records that are larger than those.
 //! - `faults` are the lines and numbers of faults, also of those of `gtfs_field` and `gtfs_days`.
@@ -25,8 +25,6 @@ mod disk_folders;
 mod faults;
 #[cfg(test)]
 mod given_memory;
-#[cfg(test)]
-mod lending;
 #[cfg(test)]
 mod memory_folders;
 #[cfg(test)]
