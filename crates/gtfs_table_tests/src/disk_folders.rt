@@ -116,6 +116,33 @@ fn assert_closed(
     set_mode(system, dir, 0o700)
 }
 
+// The steps that the system itself takes.
+fn prepare(system: &HostRuntime, path: &str, step: &Step) -> Result<(), Fail> {
+    match *step {
+        Folder(_) => fs::create_dir(system, path)?,
+        Link(_, to) => symlink(system, to, path)?,
+        Sparse(_, len) => fs::create(system, path)?.set_len(len)?,
+        _ => {}
+    }
+    Ok(())
+}
+
+// The steps that look at what the system has.
+fn look(
+    rt: &impl Abort,
+    system: &HostRuntime,
+    folders: &mut impl Folders,
+    path: &str,
+    step: &Step,
+) -> Result<(), Fail> {
+    match *step {
+        Telling(_, len) => Ok(assert_kept(rt, system.alloc(), folders, path, len)?),
+        Holds(_, bytes) => assert_holds(rt, system, path, bytes),
+        Closed(_, name, bytes) => assert_closed(rt, system, folders, (path, name), bytes),
+        _ => prepare(system, path, step),
+    }
+}
+
 fn take_step(
     rt: &impl Abort,
     system: &HostRuntime,
@@ -128,13 +155,8 @@ fn take_step(
         Ask(calls, _, name, bytes, answer) => {
             assert_asked(rt, alloc, folders, calls, (path, name), bytes, answer);
         }
-        Telling(_, len) => assert_kept(rt, alloc, folders, path, len)?,
         Length(_, name, len) => assert_length(rt, alloc, folders, (path, name), len),
-        Holds(_, bytes) => assert_holds(rt, system, path, bytes)?,
-        Folder(_) => fs::create_dir(system, path)?,
-        Closed(_, name, bytes) => assert_closed(rt, system, folders, (path, name), bytes)?,
-        Link(_, to) => symlink(system, to, path)?,
-        Sparse(_, len) => fs::create(system, path)?.set_len(len)?,
+        _ => return look(rt, system, folders, path, step),
     }
     Ok(())
 }
