@@ -1,7 +1,8 @@
 //! Folders that are read in memory that is handed in, mostly that of the tables of another folder.
 use crate::assertions::{assert_is, assert_that};
+use crate::shown::shown;
 use gtfs_field::OutOfMemory;
-use gtfs_table::{File, MemoryFolders, State, Tables};
+use gtfs_table::{File, MemoryFolders, Tables};
 use std::alloc::{AllocError, Global};
 use std::process::Abort;
 use std::test::Fail;
@@ -52,83 +53,44 @@ fn large_file(alloc: Global) -> Result<Vec<u8>, AllocError> {
     Ok(bytes)
 }
 
-fn told(state: State) -> &'static str {
-    match state {
-        State::Absent => " is absent\n",
-        State::NotUtf8 => " is not UTF-8\n",
-        State::Read => " is read\n",
-    }
-}
-
-fn push_records(text: &mut String, tables: &Tables, file: File) -> Result<(), OutOfMemory> {
-    for i in 0..tables.records(file) {
-        for n in 0..tables.fields(file, i + 1) {
-            text.push_str("<")?;
-            text.push_str(tables.field(file, i + 1, n))?;
-            text.push_str(">")?;
-        }
-        text.push_str("\n")?;
-    }
-    Ok(())
-}
-
-// Each file with its state and its records, a field between angle brackets and a record on a line,
-// and then the other names.
-fn shown(alloc: Global, tables: &Tables) -> Result<String, OutOfMemory> {
-    let mut text = String::new(alloc);
-    for file in &File::ALL {
-        text.push_str(file.name())?;
-        text.push_str(told(tables.state(*file)))?;
-        push_records(&mut text, tables, *file)?;
-    }
-    for name in tables.others() {
-        text.push_str(name.as_str())?;
-        text.push_str("\n")?;
-    }
-    Ok(text)
-}
-
 // Holds the tables of the folder f2, read in this memory, to those that it has.
 fn assert_second(
     rt: &impl Abort,
     alloc: Global,
     folders: &mut MemoryFolders,
     memory: Vec<u8>,
+    what: &str,
 ) -> Result<(), Fail> {
     let found = shown(alloc, &Tables::read_in(alloc, folders, "f2", memory)?)?;
-    assert_is(rt, found.as_str(), SECOND_SHOWN, "in memory");
-    let alone = shown(alloc, &Tables::read(alloc, folders, "f2")?)?;
-    assert_is(rt, alone.as_str(), SECOND_SHOWN, "alone");
+    assert_is(rt, found.as_str(), SECOND_SHOWN, what);
     Ok(())
 }
 
 // Reads the folder f2 in the memory of the tables of the folder f1.
-fn assert_second_after(rt: &impl Abort, alloc: Global, first: Option<&[u8]>) -> Result<(), Fail> {
+fn assert_second_after(
+    rt: &impl Abort,
+    alloc: Global,
+    first: Option<&[u8]>,
+    what: &str,
+) -> Result<(), Fail> {
     let mut folders = folders_of(alloc, first)?;
     let memory = Tables::read(alloc, &mut folders, "f1")?.into_memory();
     assert_is(rt, memory.len(), 0, "bytes in the memory");
-    assert_second(rt, alloc, &mut folders, memory)
+    assert_second(rt, alloc, &mut folders, memory, what)
 }
 
 #[test]
-fn a_folder_is_read_in_the_memory_of_a_larger_one(rt: HostRuntime) -> Result<(), Fail> {
+fn a_folder_is_read_in_the_memory_of_another_one(rt: HostRuntime) -> Result<(), Fail> {
     let large = large_file(rt.alloc())?;
-    assert_second_after(&rt, rt.alloc(), Some(&large))
-}
-
-#[test]
-fn a_folder_is_read_in_the_memory_of_a_smaller_one(rt: HostRuntime) -> Result<(), Fail> {
-    assert_second_after(&rt, rt.alloc(), Some(b"trip_id\nT9\n"))
-}
-
-#[test]
-fn a_folder_is_read_in_the_memory_of_an_absent_file(rt: HostRuntime) -> Result<(), Fail> {
-    assert_second_after(&rt, rt.alloc(), None)
-}
-
-#[test]
-fn a_folder_is_read_in_the_memory_of_a_file_of_no_text(rt: HostRuntime) -> Result<(), Fail> {
-    assert_second_after(&rt, rt.alloc(), Some(b"trip_id\nT9\n\xFF\n"))
+    for (first, what) in [
+        (Some(large.as_slice()), "of a larger file"),
+        (Some(b"trip_id\nT9\n"), "of a smaller file"),
+        (Some(b"trip_id\nT9\n\xFF\n"), "of a file of no text"),
+        (None, "of an absent file"),
+    ] {
+        assert_second_after(&rt, rt.alloc(), first, what)?;
+    }
+    Ok(())
 }
 
 // What is handed in may have bytes in it: they are let go.
@@ -136,7 +98,10 @@ fn a_folder_is_read_in_the_memory_of_a_file_of_no_text(rt: HostRuntime) -> Resul
 fn a_folder_is_read_in_memory_with_bytes_in_it(rt: HostRuntime) -> Result<(), Fail> {
     let mut folders = folders_of(rt.alloc(), None)?;
     let memory = large_file(rt.alloc())?;
-    assert_second(&rt, rt.alloc(), &mut folders, memory)
+    assert_second(&rt, rt.alloc(), &mut folders, memory, "of bytes")?;
+    let alone = shown(rt.alloc(), &Tables::read(rt.alloc(), &mut folders, "f2")?)?;
+    assert_is(&rt, alone.as_str(), SECOND_SHOWN, "alone");
+    Ok(())
 }
 
 // How many bytes the fields of stop_times.txt come to.
@@ -156,9 +121,14 @@ fn a_large_file_leaves_memory_for_its_fields(rt: HostRuntime) -> Result<(), Fail
     let mut folders = folders_of(rt.alloc(), Some(&large))?;
     let tables = Tables::read(rt.alloc(), &mut folders, "f1")?;
     let size = field_bytes(&tables);
-    assert_is(&rt, size, 6_300, "bytes of the fields");
     let memory = tables.into_memory();
-    assert_is(&rt, memory.len(), 0, "bytes in the memory");
+    let found = (size, memory.len());
+    assert_is(
+        &rt,
+        found,
+        (6_300, 0),
+        "bytes of the fields and in the memory",
+    );
     assert_that(&rt, memory.capacity() >= size, "room for the fields");
     Ok(())
 }

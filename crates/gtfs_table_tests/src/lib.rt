@@ -2,10 +2,10 @@
 //! proved twice, with them and without. They call public functions alone.
 //!
 //! - `tables` are files with the records and values that they have, and `offsets` such with
-//!   many fields and with long ones; `record_lengths` are records about the lengths at
-//!   which they are kept in another way.
+//!   many fields and with long ones, also about the lengths at which records are kept in another
+//!   way; `shown` is a table as a text.
 //! - `memory_folders` and `disk_folders` are the two devices that hold folders,
-//!   and `outputs` those that take text; `lending` is what both lend to a reader.
+//!   and `outputs` those that take text.
 //! - `given_memory` are folders that are read in memory that is handed in.
 //! - `sizes` are outputs, files, folders and records that are larger than those.
 //! - `faults` are the lines and numbers of faults, also of those of `gtfs_field` and `gtfs_days`.
@@ -26,15 +26,13 @@ mod faults;
 #[cfg(test)]
 mod given_memory;
 #[cfg(test)]
-mod lending;
-#[cfg(test)]
 mod memory_folders;
 #[cfg(test)]
 mod offsets;
 #[cfg(test)]
 mod outputs;
 #[cfg(test)]
-mod record_lengths;
+mod shown;
 #[cfg(test)]
 mod sizes;
 #[cfg(test)]

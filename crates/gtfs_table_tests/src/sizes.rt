@@ -1,5 +1,7 @@
 //! Large outputs, files, folders and records: memory alone bounds their sizes.
 use crate::assertions::{assert_is, assert_is_at};
+use crate::shown::tables_of;
+use gtfs_field::Text;
 use gtfs_table::{File, Folders, MemoryFolders, MemoryOut, Out, Tables, write_text};
 use std::alloc::{AllocError, Global};
 use std::process::Abort;
@@ -9,9 +11,8 @@ use std::test::Fail;
 fn an_output_may_have_room_for_a_hundred_megabytes(rt: HostRuntime) -> Result<(), Fail> {
     let mut out = MemoryOut::new(rt.alloc(), 100_000_001)?;
     let written = write_text(&mut out, b"departure");
-    assert_is(&rt, written, Ok(()), "writing");
-    assert_is(&rt, out.bytes(), b"departure", "bytes");
-    assert_is(&rt, out.failures(), 0, "failures");
+    let found = (written, out.bytes(), out.failures());
+    assert_is(&rt, found, (Ok(()), b"departure".as_slice(), 0), "written");
     Ok(())
 }
 
@@ -37,9 +38,13 @@ fn large_file(alloc: Global) -> Result<Vec<u8>, AllocError> {
 // Its ends and its length alone: all its bytes take long to compare where the tests run unproved.
 fn assert_large(rt: &impl Abort, alloc: Global, folders: &mut MemoryFolders) -> Result<(), Fail> {
     let file = folders.read(alloc, "f1", "stops.txt")?.ok_or("no file")?;
-    assert_is(rt, file.len(), 70_000_000, "length");
-    assert_is(rt, file.first(), Some(&b'0'), "first byte");
-    assert_is(rt, file.last(), Some(&b'9'), "last byte");
+    let found = (file.len(), file.first().copied(), file.last().copied());
+    assert_is(
+        rt,
+        found,
+        (70_000_000, Some(b'0'), Some(b'9')),
+        "length and ends",
+    );
     Ok(())
 }
 
@@ -65,34 +70,27 @@ fn put_numbers(alloc: Global, folders: &mut MemoryFolders) -> Result<(), Fail> {
     Ok(())
 }
 
-#[test]
-fn a_folder_may_have_seventy_thousand_files(rt: HostRuntime) -> Result<(), Fail> {
-    let mut folders = MemoryFolders::new(rt.alloc(), 100, None);
-    put_numbers(rt.alloc(), &mut folders)?;
-    let names = folders.names(rt.alloc(), "f1")?;
-    assert_is(&rt, names.len(), 70_000, "names");
+// The names are those numbers.
+fn assert_numbers(rt: &impl Abort, alloc: Global, names: &[Text]) -> Result<(), Fail> {
+    assert_is(rt, names.len(), 70_000, "names");
     for (name, number) in names.iter().zip(100_000_u32..170_000) {
-        let wanted = format!(in rt.alloc(); "{number}")?;
-        assert_is(&rt, name.as_str(), wanted.as_str(), "name");
+        let wanted = format!(in alloc; "{number}")?;
+        assert_is(rt, name.as_str(), wanted.as_str(), "name");
     }
     Ok(())
 }
 
+// They are other names of the tables of the folder.
 #[test]
-fn tables_may_have_seventy_thousand_other_names(rt: HostRuntime) -> Result<(), Fail> {
+fn a_folder_may_have_seventy_thousand_files(rt: HostRuntime) -> Result<(), Fail> {
     let mut folders = MemoryFolders::new(rt.alloc(), 100, None);
     put_numbers(rt.alloc(), &mut folders)?;
+    assert_numbers(&rt, rt.alloc(), &folders.names(rt.alloc(), "f1")?)?;
     folders.put("f1", "stops.txt", b"stop_id\nS1\n")?;
     let tables = Tables::read(rt.alloc(), &mut folders, "f1")?;
     let value = tables.value(File::Stops, 2, "stop_id");
     assert_is(&rt, value, "S1", "value");
-    let others = tables.others();
-    assert_is(&rt, others.len(), 70_000, "other names");
-    for (name, number) in others.iter().zip(100_000_u32..170_000) {
-        let wanted = format!(in rt.alloc(); "{number}")?;
-        assert_is(&rt, name.as_str(), wanted.as_str(), "other name");
-    }
-    Ok(())
+    assert_numbers(&rt, rt.alloc(), tables.others())
 }
 
 // This field so many times, each with a comma after it, and then the last one of the record.
@@ -104,38 +102,24 @@ fn push_fields(
 ) -> Result<(), AllocError> {
     for _ in 0..times {
         text.extend_from_slice(field)?;
-        text.extend_from_slice(b",")?;
     }
-    text.extend_from_slice(last)?;
-    text.extend_from_slice(b"\n")
-}
-
-// A header and a row of seventy thousand fields each.
-fn wide_table(alloc: Global) -> Result<Vec<u8>, AllocError> {
-    let mut text = Vec::new(alloc);
-    push_fields(&mut text, b"c", 69_999, b"end")?;
-    push_fields(&mut text, b"1", 69_999, b"last")?;
-    Ok(text)
-}
-
-fn assert_wide(rt: &impl Abort, tables: &Tables) {
-    let column = tables.column(File::Trips, "end");
-    assert_is(rt, column, Some(69_999), "column");
-    let field = tables.field(File::Trips, 2, 69_998);
-    assert_is(rt, field, "1", "last field but one");
-    let value = tables.value(File::Trips, 2, "end");
-    assert_is(rt, value, "last", "value");
+    text.extend_from_slice(last)
 }
 
 #[test]
 fn a_record_may_have_seventy_thousand_fields(rt: HostRuntime) -> Result<(), Fail> {
-    let mut folders = MemoryFolders::new(rt.alloc(), 1_000_000, None);
-    folders.put("f1", "trips.txt", &wide_table(rt.alloc())?)?;
-    let tables = Tables::read(rt.alloc(), &mut folders, "f1")?;
+    let mut text = Vec::new(rt.alloc());
+    push_fields(&mut text, b"c,", 69_999, b"end\n")?;
+    push_fields(&mut text, b"1,", 69_999, b"last\n")?;
+    let tables = tables_of(rt.alloc(), File::Trips, &text)?;
     for row in [1, 2] {
         let fields = tables.fields(File::Trips, row);
         assert_is_at(&rt, fields, 70_000, "fields of row", row);
     }
-    assert_wide(&rt, &tables);
+    let column = tables.column(File::Trips, "end");
+    let field = tables.field(File::Trips, 2, 69_998);
+    let value = tables.value(File::Trips, 2, "end");
+    let found = (column, field, value);
+    assert_is(&rt, found, (Some(69_999), "1", "last"), "column and fields");
     Ok(())
 }

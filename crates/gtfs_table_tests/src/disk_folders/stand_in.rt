@@ -1,188 +1,134 @@
-//! A file system that stands in for the real one. It has one folder, f1, with one file or none, and
-//! every call on it can fail. It counts what is listed, opened, made, read and written.
+//! A file system that stands in for the real one. It has one folder, f1, with one file or none. It
+//! keeps which calls were made on it, in their order, and refuses some of them.
 ghost use Rattle.std.specs.Prelude.{IsErr};
 
 use std::alloc::{Allocator, Global};
 use std::cell::Cell;
 use std::fs::{Metadata, OpenFile, OpenOptions};
+use std::io;
 use std::io::{Error, ErrorKind, Read, Seek, SeekFrom, Write};
 use std::rt::Files;
-use std::{fs, io};
 
-/// A call that a system can refuse.
-#[derive(Clone, Copy, Debug, PartialEq, Eq)]
-pub(super) enum Call {
-    OpenFolder,
-    List,
-    Find,
-    Look,
-    Open,
-    Read,
-    Make,
-    Write,
-}
+// A digit for each call on a system, as `Calls` keeps it.
+const LIST: u64 = 0;
 
-/// How often the folder was listed, and how often files were opened, made, read and written.
+const OPEN_FOLDER: u64 = 1;
+
+const FIND: u64 = 2;
+
+const LOOK: u64 = 3;
+
+const OPEN: u64 = 4;
+
+const TELL: u64 = 5;
+
+const READ: u64 = 6;
+
+const MAKE: u64 = 7;
+
+const WRITE: u64 = 8;
+
+const MAKE_FOLDER: u64 = 9;
+
+/// The calls that were made on a system.
 #[derive(Drop)]
-pub(super) struct Counts {
-    lists: Cell<u64>,
-    opens: Cell<u64>,
-    makes: Cell<u64>,
-    reads: Cell<u64>,
-    writes: Cell<u64>,
+pub(super) struct Calls {
+    digits: Cell<u64>,
+    count: Cell<u64>,
+    // Of the calls, counted from one, those from the first of these on and before the second are
+    // refused for this reason.
+    first: u64,
+    end: u64,
+    reason: ErrorKind,
 }
 
-impl Counts {
-    pub(super) fn new() -> Counts {
-        Counts {
-            lists: Cell::new(0),
-            opens: Cell::new(0),
-            makes: Cell::new(0),
-            reads: Cell::new(0),
-            writes: Cell::new(0),
+impl Calls {
+    pub(super) fn new(first: u64, end: u64, reason: ErrorKind) -> Calls {
+        Calls {
+            digits: Cell::new(0),
+            count: Cell::new(0),
+            first,
+            end,
+            reason,
         }
     }
 
-    pub(super) fn reads(&self) -> u64 {
-        self.reads.get()
+    /// The digits of the calls, the first one first.
+    pub(super) fn digits(&self) -> u64 {
+        self.digits.get()
     }
 
-    /// Those of lists, opens, reads, makes and writes.
-    pub(super) fn get(&self) -> [u64; 5] {
-        [
-            self.lists.get(),
-            self.opens.get(),
-            self.reads.get(),
-            self.makes.get(),
-            self.writes.get(),
-        ]
+    // Keeps a call, and refuses it where its turn has come.
+    fn add(&self, call: u64) -> io::Result<()> {
+        let digits = self.digits.get().saturating_mul(10).saturating_add(call);
+        self.digits.set(digits);
+        let count = self.count.get().saturating_add(1);
+        self.count.set(count);
+        if self.first <= count && count < self.end {
+            return Err(Error::from(self.reason));
+        }
+        Ok(())
     }
 }
 
-fn count(calls: &Cell<u64>) {
-    calls.set(calls.get().saturating_add(1));
+/// What a system has, and what is asked of it.
+#[derive(Clone, Copy)]
+pub(super) struct Scene {
+    /// The folder that is asked for, and how long its file may be.
+    pub(super) dir: &'static str,
+    pub(super) limit: u64,
+    /// Names of the folder f1, each ended by a NUL, and how often they are listed.
+    pub(super) names: &'static [u8],
+    pub(super) times: usize,
+    /// The bytes of its file stops.txt, where it has one.
+    pub(super) file: Option<&'static [u8]>,
+    /// Whether that is told as a file, and not as what is neither a file nor a folder nor a device.
+    pub(super) is_file: bool,
+    /// The length that the file tells of itself.
+    pub(super) told: Option<u64>,
+    /// How many bytes a write to it takes at most.
+    pub(super) takes: usize,
 }
 
 #[derive(Clone, Copy)]
 pub(super) struct StandIn<'a> {
     pub(super) rt: HostRuntime,
-    pub(super) folder: Entries,
-    pub(super) file: Option<Drip<'a>>,
-    // Whether the file is told as one, and not as what is neither a file nor a folder nor a device.
-    pub(super) is_file: bool,
-    // This call is refused for this reason.
-    pub(super) refusal: Option<(Call, ErrorKind)>,
-    pub(super) counts: &'a Counts,
+    pub(super) scene: Scene,
+    pub(super) calls: &'a Calls,
 }
 
-impl<'a> StandIn<'a> {
-    pub(super) fn with_names(
-        rt: HostRuntime,
-        counts: &'a Counts,
-        names: &'static [u8],
-        times: usize,
-    ) -> StandIn<'a> {
-        StandIn {
-            rt,
-            folder: Entries {
-                names,
-                times,
-                fault: None,
-            },
-            file: None,
-            is_file: true,
-            refusal: None,
-            counts,
-        }
-    }
-
-    pub(super) fn with_file(rt: HostRuntime, file: Drip<'a>) -> StandIn<'a> {
-        StandIn {
-            file: Some(file),
-            ..StandIn::with_names(rt, file.counts, b"stops.txt\0", 1)
-        }
-    }
-
-    fn fault_of(&self, call: Call) -> Option<ErrorKind> {
-        match self.refusal {
-            Some((refused, kind)) if refused == call => Some(kind),
-            _ => None,
-        }
-    }
-
-    fn allow(&self, call: Call) -> io::Result<()> {
-        match self.fault_of(call) {
-            Some(kind) => Err(Error::from(kind)),
-            None => Ok(()),
-        }
-    }
-
+impl StandIn<'_> {
     // What a path leads to.
     fn entry(&self, path: &str) -> io::Result<Metadata> {
-        match (path, self.file) {
+        match (path, self.scene.file) {
             ("f1", _) => Ok(Metadata::of_dir()),
-            ("f1/stops.txt", Some(_)) if self.is_file => Ok(Metadata::of_file(0)),
+            ("f1/stops.txt", Some(_)) if self.scene.is_file => Ok(Metadata::of_file(0)),
             ("f1/stops.txt", Some(_)) => Ok(Metadata::of_symlink(0)),
             _ => Err(Error::from(ErrorKind::NotFound)),
         }
     }
-
-    fn opened(&self, calls: &Cell<u64>, call: Call) -> io::Result<Drip<'a>> {
-        count(calls);
-        self.allow(call)?;
-        let Some(file) = self.file else {
-            return Err(Error::from(ErrorKind::NotFound));
-        };
-        Ok(Drip {
-            read_fault: self.fault_of(Call::Read).or(file.read_fault),
-            write_fault: self.fault_of(Call::Write),
-            ..file
-        })
-    }
 }
 
-/// Names, each ended by a NUL, over and over, or a fault in their place.
+/// Gives its names over and over.
 #[derive(Clone, Copy)]
-pub(super) struct Entries {
+pub(super) struct Entries<'a> {
     names: &'static [u8],
     times: usize,
-    fault: Option<ErrorKind>,
+    calls: &'a Calls,
 }
 
-/// Gives its bytes one a read, and takes some of what is written. After the bytes, or in the place
-/// of taking some, it answers by its fault, where it has one.
+/// Gives its bytes one a read, and takes some of what is written.
 #[derive(Clone, Copy)]
 pub(super) struct Drip<'a> {
-    pub(super) rt: HostRuntime,
-    pub(super) left: &'static [u8],
-    pub(super) read_fault: Option<ErrorKind>,
-    // How many bytes a write takes at most.
-    pub(super) takes: usize,
-    pub(super) write_fault: Option<ErrorKind>,
-    pub(super) counts: &'a Counts,
-    // It tells the length of the disk's file with this path, where there is one.
-    pub(super) told: &'a str,
+    left: &'static [u8],
+    told: Option<u64>,
+    takes: usize,
+    calls: &'a Calls,
 }
 
-impl<'a> Drip<'a> {
-    pub(super) fn new(rt: HostRuntime, counts: &'a Counts, left: &'static [u8]) -> Drip<'a> {
-        Drip {
-            rt,
-            left,
-            read_fault: None,
-            takes: usize::MAX,
-            write_fault: None,
-            counts,
-            told: "",
-        }
-    }
-}
-
-impl Read for Entries {
+impl Read for Entries<'_> {
     fn read(&mut self, buf: &mut [u8]) -> io::Result<usize> {
-        if let Some(kind) = self.fault {
-            return Err(Error::from(kind));
-        }
+        self.calls.add(LIST)?;
         let len = self.names.len();
         if self.times == 0 || buf.len() < len {
             return Ok(0);
@@ -195,28 +141,22 @@ impl Read for Entries {
 
 impl Read for Drip<'_> {
     fn read(&mut self, buf: &mut [u8]) -> io::Result<usize> {
-        count(&self.counts.reads);
+        self.calls.add(READ)?;
         match (self.left, buf) {
             ([first, rest @ ..], [place, ..]) => {
                 *place = *first;
                 self.left = rest;
                 Ok(1)
             }
-            _ => match self.read_fault {
-                Some(kind) => Err(Error::from(kind)),
-                None => Ok(0),
-            },
+            _ => Ok(0),
         }
     }
 }
 
 impl Write for Drip<'_> {
     fn write(&mut self, buf: &[u8]) -> io::Result<usize> {
-        count(&self.counts.writes);
-        match self.write_fault {
-            Some(kind) => Err(Error::from(kind)),
-            None => Ok(buf.len().min(self.takes)),
-        }
+        self.calls.add(WRITE)?;
+        Ok(buf.len().min(self.takes))
     }
 
     fn flush(&mut self) -> io::Result<()> {
@@ -239,7 +179,11 @@ impl Seek for Drip<'_> {
 
 impl OpenFile for Drip<'_> {
     fn metadata(&self) -> io::Result<Metadata> {
-        fs::metadata(&self.rt, self.told)
+        self.calls.add(TELL)?;
+        match self.told {
+            Some(len) => Ok(Metadata::of_file(len)),
+            None => unsupported(),
+        }
     }
 
     fn set_len(&self, _size: u64) -> io::Result<()> {
@@ -266,37 +210,40 @@ impl Alloc for StandIn<'_> {
 impl<'a> Files for StandIn<'a> {
     type File = Drip<'a>;
 
-    type Dir = Entries;
+    type Dir = Entries<'a>;
 
     fn open_file(&self, how: &OpenOptions, _path: &str) -> io::Result<Drip<'a>> {
-        if how.asks_create() {
-            self.opened(&self.counts.makes, Call::Make)
-        } else {
-            self.opened(&self.counts.opens, Call::Open)
+        self.calls.add(if how.asks_create() { MAKE } else { OPEN })?;
+        match self.scene.file {
+            Some(left) => Ok(Drip {
+                left,
+                told: self.scene.told,
+                takes: self.scene.takes,
+                calls: self.calls,
+            }),
+            None => Err(Error::from(ErrorKind::NotFound)),
         }
     }
 
-    fn open_dir(&self, path: &str) -> io::Result<Entries> {
-        count(&self.counts.lists);
-        self.allow(Call::OpenFolder)?;
+    fn open_dir(&self, path: &str) -> io::Result<Entries<'a>> {
+        self.calls.add(OPEN_FOLDER)?;
         if path != "f1/" {
             return Err(Error::from(ErrorKind::NotFound));
         }
         Ok(Entries {
-            fault: self.fault_of(Call::List),
-            ..self.folder
+            names: self.scene.names,
+            times: self.scene.times,
+            calls: self.calls,
         })
     }
 
     fn metadata(&self, path: &str) -> io::Result<Metadata> {
-        if path != "f1" {
-            self.allow(Call::Find)?;
-        }
+        self.calls.add(FIND)?;
         self.entry(path)
     }
 
     fn symlink_metadata(&self, path: &str) -> io::Result<Metadata> {
-        self.allow(Call::Look)?;
+        self.calls.add(LOOK)?;
         self.entry(path)
     }
 
@@ -313,6 +260,7 @@ impl<'a> Files for StandIn<'a> {
     }
 
     fn create_dir(&self, _path: &str) -> io::Result<()> {
+        self.calls.add(MAKE_FOLDER)?;
         Err(Error::from(ErrorKind::AlreadyExists))
     }
 
