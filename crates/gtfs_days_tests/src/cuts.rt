@@ -1,5 +1,6 @@
 //! Services on one side of a service day: the rows that stay, and the days on which they run.
 ghost use Rattle.std.specs.Prelude.{◌≡◌, IfOk, true};
+ghost use Rattle.gtfs_days.specs.Cut.{cut_day};
 ghost use Rattle.gtfs_days.specs.Service.{NamesEachDayOnce, is_service_day};
 
 use crate::assertions::{assert_is, assert_is_at};
@@ -13,49 +14,19 @@ use std::test::Fail;
 
 const DAILY: [bool; 7] = [true; 7];
 
-// The number of the day before 1 April 2024.
-const MARCH: i32 = 19_813;
-
-// The side of a day on which a service is left.
-#[derive(Clone, Copy, Debug)]
-enum Side {
-    Before,
-    From,
-}
-
-use Side::{Before, From};
-
-fn trimmed(alloc: Global, service: &Service, side: Side, day: Day) -> Result<Service, OutOfMemory>
-    requires { is_service_day day ≡ true }
-{
-    match side {
-        Before => service.trim(alloc, Cut::Before(day)),
-        From => service.trim(alloc, Cut::From(day)),
-    }
-}
-
-// The rows that stay of a service on this side of the day with the number.
-type Stay<'a> = (Side, i32, Option<Week>, &'a [(Day, Exception)]);
-
-fn assert_stay(
-    rt: &impl Abort,
-    alloc: Global,
+// Holds that these rows stay of the service.
+fn assert_stay<R: Abort + AllocGlobal>(
+    rt: &R,
     service: &Service,
-    stays: &[Stay],
-) -> Result<(), Fail> {
-    for &(side, number, week, exceptions) in stays {
-        assert!(rt; number >= -25_567);
-        assert!(rt; number <= 2_932_531);
-        let left = trimmed(alloc, service, side, Day::from_number(number))?;
-        let found = (left.week(), left.exceptions());
-        assert_is_at(
-            rt,
-            found,
-            (week.as_ref(), exceptions),
-            "left",
-            (side, number),
-        );
-    }
+    cut: Cut,
+    week: Option<&Week>,
+    exceptions: &[(Day, Exception)],
+) -> Result<(), Fail>
+    requires { is_service_day (cut_day cut) ≡ true }
+{
+    let trimmed = service.trim(rt.alloc(), cut)?;
+    assert_is(rt, trimmed.week(), week, "calendar row");
+    assert_is(rt, trimmed.exceptions(), exceptions, "exceptions");
     Ok(())
 }
 
@@ -79,46 +50,55 @@ fn idle(day: Day) -> Week {
 
 #[test]
 fn rows_go_where_nothing_of_them_is_left(rt: HostRuntime) -> Result<(), Fail> {
-    let (days, start, end) = (DAILY, april(1), april(2));
+    let week = Week {
+        days: DAILY,
+        start: april(1),
+        end: april(2),
+    };
     let third = [(april(3), Added)];
-    let service = Service::new(rt.alloc(), Some(Week { days, start, end }), &third)?;
+    let service = Service::new(rt.alloc(), Some(week), &third)?;
+    let first = daily(april(1), april(1));
+    assert_stay(&rt, &service, Cut::Before(april(2)), Some(&first), &[])?;
+    assert_stay(&rt, &service, Cut::From(april(3)), None, &third)?;
     let never = Day::from_number(FIRST_SERVICE_DAY);
-    let stays: [Stay; 3] = [
-        (Before, MARCH + 2, Some(daily(april(1), april(1))), &[]),
-        (From, MARCH + 3, None, &third),
-        (Before, FIRST_SERVICE_DAY, Some(idle(never)), &[]),
-    ];
-    assert_stay(&rt, rt.alloc(), &service, &stays)
+    let no_days = idle(Day::from_number(FIRST_SERVICE_DAY));
+    assert_stay(&rt, &service, Cut::Before(never), Some(&no_days), &[])
 }
 
 #[test]
 fn a_trimmed_service_runs_in_its_part_alone(rt: HostRuntime) -> Result<(), Fail> {
-    let (days, start, end) = (DAILY, april(1), april(2));
-    let week = Week { days, start, end };
+    let week = Week {
+        days: DAILY,
+        start: april(1),
+        end: april(2),
+    };
     let service = Service::new(rt.alloc(), Some(week), &[(april(3), Added)])?;
     let before = service.trim(rt.alloc(), Cut::Before(april(2)))?;
-    let days = [
-        (april(1), Some(april(1))),
-        (april(2), None),
-        (april(3), None),
-    ];
-    assert_next(&rt, &before, &days);
     let from = service.trim(rt.alloc(), Cut::From(april(3)))?;
-    let third = Some(april(3));
-    assert_next(
-        &rt,
-        &from,
-        &[(april(1), third), (april(2), third), (april(3), third)],
-    );
+    for (day, runs_before, runs_from) in [
+        (april(1), true, false),
+        (april(2), false, false),
+        (april(3), false, true),
+    ] {
+        assert_is_at(
+            &rt,
+            before.active(day),
+            runs_before,
+            "before the 2nd, on",
+            day,
+        );
+        assert_is_at(&rt, from.active(day), runs_from, "from the 3rd, on", day);
+    }
     Ok(())
 }
 
-// A calendar row with exceptions before it, in it and after it. Of the exceptions on the day before
-// a cut, on it and after it, each stays on its side. A calendar row that lies whole on the other
-// side goes, and exceptions alone get none. Where nothing is left there is an idle row.
-#[test]
-fn rows_are_cut_at_the_day(rt: HostRuntime) -> Result<(), Fail> {
-    let (days, start, end) = (DAILY, april(8), april(12));
+// A calendar row with exceptions before it, in it and after it.
+fn crossed(rt: &impl AllocGlobal) -> Result<Service, Fail> {
+    let week = Week {
+        days: DAILY,
+        start: april(8),
+        end: april(12),
+    };
     let exceptions = [
         (april(7), Added),
         (april(9), Removed),
@@ -126,64 +106,98 @@ fn rows_are_cut_at_the_day(rt: HostRuntime) -> Result<(), Fail> {
         (april(11), Removed),
         (april(20), Added),
     ];
-    let service = Service::new(rt.alloc(), Some(Week { days, start, end }), &exceptions)?;
-    let stays: [Stay; 7] = [
-        (
-            Before,
-            MARCH + 10,
-            Some(daily(april(8), april(9))),
-            &exceptions[..2],
-        ),
-        (
-            From,
-            MARCH + 10,
-            Some(daily(april(10), april(12))),
-            &exceptions[2..],
-        ),
-        (Before, MARCH + 8, None, &exceptions[..1]),
-        (From, MARCH + 13, None, &exceptions[4..]),
-        (
-            From,
-            MARCH + 12,
-            Some(daily(april(12), april(12))),
-            &exceptions[4..],
-        ),
-        (Before, MARCH + 7, Some(idle(april(7))), &[]),
-        (From, MARCH + 21, Some(idle(april(21))), &[]),
+    Ok(Service::new(rt.alloc(), Some(week), &exceptions)?)
+}
+
+// Of the exceptions on the day before the cut, on it and after it, each stays on its side.
+#[test]
+fn rows_are_cut_at_the_day(rt: HostRuntime) -> Result<(), Fail> {
+    let service = crossed(&rt)?;
+    let early = daily(april(8), april(9));
+    let before = [(april(7), Added), (april(9), Removed)];
+    assert_stay(&rt, &service, Cut::Before(april(10)), Some(&early), &before)?;
+    let late = daily(april(10), april(12));
+    let from = [
+        (april(10), Removed),
+        (april(11), Removed),
+        (april(20), Added),
     ];
-    assert_stay(&rt, rt.alloc(), &service, &stays)
+    assert_stay(&rt, &service, Cut::From(april(10)), Some(&late), &from)
+}
+
+// A calendar row that lies whole on the other side goes, and exceptions alone get none.
+#[test]
+fn exceptions_stay_without_a_calendar_row(rt: HostRuntime) -> Result<(), Fail> {
+    let service = crossed(&rt)?;
+    assert_stay(
+        &rt,
+        &service,
+        Cut::Before(april(8)),
+        None,
+        &[(april(7), Added)],
+    )?;
+    assert_stay(
+        &rt,
+        &service,
+        Cut::From(april(13)),
+        None,
+        &[(april(20), Added)],
+    )?;
+    let last = daily(april(12), april(12));
+    let twentieth = [(april(20), Added)];
+    assert_stay(&rt, &service, Cut::From(april(12)), Some(&last), &twentieth)
+}
+
+#[test]
+fn a_service_on_the_other_side_gets_an_idle_row(rt: HostRuntime) -> Result<(), Fail> {
+    let service = crossed(&rt)?;
+    let seventh = idle(april(7));
+    assert_stay(&rt, &service, Cut::Before(april(7)), Some(&seventh), &[])?;
+    let after = idle(april(21));
+    assert_stay(&rt, &service, Cut::From(april(21)), Some(&after), &[])
 }
 
 // An exception that removes a day is a row too, so no other stands for it.
 #[test]
 fn a_removed_day_alone_gets_no_calendar_row(rt: HostRuntime) -> Result<(), Fail> {
-    let (days, start, end) = (DAILY, april(1), april(5));
+    let week = Week {
+        days: DAILY,
+        start: april(1),
+        end: april(5),
+    };
     let removed = [(april(10), Removed)];
-    let service = Service::new(rt.alloc(), Some(Week { days, start, end }), &removed)?;
-    assert_stay(
-        &rt,
-        rt.alloc(),
-        &service,
-        &[(From, MARCH + 6, None, &removed)],
-    )
+    let service = Service::new(rt.alloc(), Some(week), &removed)?;
+    assert_stay(&rt, &service, Cut::From(april(6)), None, &removed)
 }
 
 #[test]
 fn a_cut_at_the_first_and_the_last_service_day(rt: HostRuntime) -> Result<(), Fail> {
     let first = Day::from_number(FIRST_SERVICE_DAY);
     let last = Day::from_number(LAST_SERVICE_DAY);
-    let until = Day::from_number(LAST_SERVICE_DAY - 1);
     let end = Day::from_number(2_932_896);
-    let (days, start) = (DAILY, first);
-    let week = Some(Week { days, start, end });
-    let added = [(end, Added)];
-    let service = Service::new(rt.alloc(), week, &added)?;
-    let stays: [Stay; 3] = [
-        (From, FIRST_SERVICE_DAY, week, &added),
-        (Before, LAST_SERVICE_DAY, Some(daily(first, until)), &[]),
-        (From, LAST_SERVICE_DAY, Some(daily(last, end)), &added),
-    ];
-    assert_stay(&rt, rt.alloc(), &service, &stays)
+    let week = Week {
+        days: DAILY,
+        start: first,
+        end,
+    };
+    let service = Service::new(rt.alloc(), Some(week), &[(end, Added)])?;
+    assert_stay(
+        &rt,
+        &service,
+        Cut::From(first),
+        Some(&week),
+        &[(end, Added)],
+    )?;
+    let until = daily(first, Day::from_number(LAST_SERVICE_DAY - 1));
+    assert_stay(&rt, &service, Cut::Before(last), Some(&until), &[])?;
+    let since = daily(last, end);
+    assert_stay(
+        &rt,
+        &service,
+        Cut::From(last),
+        Some(&since),
+        &[(end, Added)],
+    )
 }
 
 // More exceptions than two bytes can number.
@@ -209,16 +223,13 @@ fn many_days(alloc: Global) -> Result<Service, OutOfMemory> {
 // Holds that half of the exceptions are left, those from the one day to the other,
 // and no calendar row.
 fn assert_half(rt: &impl Abort, half: &Service, first: i32, last: i32) {
+    assert_is(rt, half.exceptions().len(), 35_000, "exceptions of a half");
+    assert_is(rt, half.week(), None, "a calendar row");
     let [(one, _), .., (other, _)] = half.exceptions() else {
         panic!(rt; "no exceptions");
     };
-    let found = (
-        half.week(),
-        half.exceptions().len(),
-        one.number(),
-        other.number(),
-    );
-    assert_is(rt, found, (None, 35_000, first, last), "row and exceptions");
+    assert_is(rt, one.number(), first, "the first exception");
+    assert_is(rt, other.number(), last, "the last exception");
 }
 
 #[test]

@@ -1,6 +1,5 @@
 //! Texts of each kind with the values that they have, and the values' canonical texts.
-use crate::assertions::{assert_is, assert_is_at};
-use gtfs_days::{FIRST_SERVICE_DAY, LAST_SERVICE_DAY};
+use crate::assertions::{assert_is, assert_is_at, assert_that};
 use gtfs_field::{
     Axis, Clock, Colour, Coord, Day, FieldFault, List, OutOfMemory, Text, push_colour, push_coord,
     push_count, push_date, push_time, read_colour, read_coord, read_count, read_date, read_instant,
@@ -11,7 +10,7 @@ use std::process::Abort;
 use std::test::Fail;
 
 // What a text is read as.
-#[derive(Clone, Copy, Debug)]
+#[derive(Clone, Copy)]
 enum Kind {
     Time,
     Date,
@@ -40,7 +39,7 @@ type Numbers = &'static [(&'static str, Result<i64, FieldFault>)];
 
 fn assert_read(rt: &impl Abort, kind: Kind, numbers: Numbers) {
     for (text, want) in numbers {
-        assert_is_at(rt, read(kind, text), *want, "at", (kind, *text));
+        assert_is_at(rt, read(kind, text), *want, "at", *text);
     }
 }
 
@@ -62,12 +61,15 @@ const TIMES: Numbers = &[
     ("", Err(FieldFault::Form)),
 ];
 
+#[test]
+fn times(rt: HostRuntime) {
+    assert_read(&rt, Kind::Time, TIMES);
+}
+
 const DATES: Numbers = &[
     ("19700101", Ok(0)),
     ("20240229", Ok(19_782)),
-    ("19000101", Ok(FIRST_SERVICE_DAY as i64)),
-    ("99981231", Ok(LAST_SERVICE_DAY as i64)),
-    ("99990101", Ok(LAST_SERVICE_DAY as i64 + 1)),
+    ("19000101", Ok(-25_567)),
     ("99991231", Ok(2_932_896)),
     ("20230229", Err(FieldFault::Range)),
     ("18991231", Err(FieldFault::Range)),
@@ -83,6 +85,11 @@ const DATES: Numbers = &[
     ("", Err(FieldFault::Form)),
 ];
 
+#[test]
+fn dates(rt: HostRuntime) {
+    assert_read(&rt, Kind::Date, DATES);
+}
+
 const COLOURS: Numbers = &[
     ("00ff7f", Ok(0x00_FF7F)),
     ("00FF7F", Ok(0x00_FF7F)),
@@ -94,6 +101,11 @@ const COLOURS: Numbers = &[
     ("00FF7G", Err(FieldFault::Form)),
     ("", Err(FieldFault::Form)),
 ];
+
+#[test]
+fn colours(rt: HostRuntime) {
+    assert_read(&rt, Kind::Colour, COLOURS);
+}
 
 const COUNTS: Numbers = &[
     ("007", Ok(7)),
@@ -108,6 +120,11 @@ const COUNTS: Numbers = &[
     ("7.0", Err(FieldFault::Form)),
     ("", Err(FieldFault::Form)),
 ];
+
+#[test]
+fn counts(rt: HostRuntime) {
+    assert_read(&rt, Kind::Count, COUNTS);
+}
 
 const LATITUDES: Numbers = &[
     ("52.1234567899", Ok(52_123_456_789)),
@@ -130,12 +147,22 @@ const LATITUDES: Numbers = &[
     ("", Err(FieldFault::Form)),
 ];
 
+#[test]
+fn latitudes(rt: HostRuntime) {
+    assert_read(&rt, Kind::Latitude, LATITUDES);
+}
+
 const LONGITUDES: Numbers = &[
     ("179.9999999999", Ok(179_999_999_999)),
     ("180", Ok(180_000_000_000)),
     ("-180.0000000009", Ok(-180_000_000_000)),
     ("180.000000001", Err(FieldFault::Range)),
 ];
+
+#[test]
+fn longitudes(rt: HostRuntime) {
+    assert_read(&rt, Kind::Longitude, LONGITUDES);
+}
 
 const INSTANTS: Numbers = &[
     ("1711837800", Ok(1_711_837_800)),
@@ -157,43 +184,35 @@ const INSTANTS: Numbers = &[
     ("0999999999999", Err(FieldFault::Form)),
 ];
 
-const KINDS: &[(Kind, Numbers)] = &[
-    (Kind::Time, TIMES),
-    (Kind::Date, DATES),
-    (Kind::Colour, COLOURS),
-    (Kind::Count, COUNTS),
-    (Kind::Latitude, LATITUDES),
-    (Kind::Longitude, LONGITUDES),
-    (Kind::Instant, INSTANTS),
-];
-
 #[test]
-fn texts_have_their_numbers(rt: HostRuntime) {
-    for &(kind, numbers) in KINDS {
-        assert_read(&rt, kind, numbers);
-    }
+fn instants(rt: HostRuntime) {
+    assert_read(&rt, Kind::Instant, INSTANTS);
 }
 
-fn push_values(alloc: Global, text: &mut String) -> Result<(), OutOfMemory> {
+fn push_times(alloc: Global, text: &mut String) -> Result<(), OutOfMemory> {
     push_time(alloc, text, Clock::from_seconds(25_500))?;
     text.push(' ')?;
     push_time(alloc, text, Clock::from_seconds(3_599_999))?;
     text.push(' ')?;
     push_time(alloc, text, Clock::from_seconds(7_199_997))?;
-    text.push(' ')?;
+    text.push(' ')
+}
+
+fn push_dates(alloc: Global, text: &mut String) -> Result<(), OutOfMemory> {
     push_date(alloc, text, Day::from_number(19_782))?;
     text.push(' ')?;
     push_date(alloc, text, Day::from_number(2_932_896))?;
-    text.push(' ')?;
-    push_colour(alloc, text, Colour::from_bits(0x00_FF7F))?;
-    text.push(' ')?;
-    push_count(alloc, text, 7)
+    text.push(' ')
 }
 
 #[test]
 fn canonical_texts(rt: HostRuntime) -> Result<(), Fail> {
     let mut text = String::new(rt.alloc());
-    push_values(rt.alloc(), &mut text)?;
+    push_times(rt.alloc(), &mut text)?;
+    push_dates(rt.alloc(), &mut text)?;
+    push_colour(rt.alloc(), &mut text, Colour::from_bits(0x00_FF7F))?;
+    text.push(' ')?;
+    push_count(rt.alloc(), &mut text, 7)?;
     let wanted = "07:05:00 999:59:59 1999:59:57 20240229 99991231 00FF7F 7";
     assert_is(&rt, text.as_str(), wanted, "texts");
     Ok(())
@@ -225,6 +244,15 @@ fn canonical_coordinates(rt: HostRuntime) -> Result<(), Fail> {
     Ok(())
 }
 
+#[test]
+fn texts(rt: HostRuntime) -> Result<(), Fail> {
+    let text = Text::new(String::from_str(rt.alloc(), "Mill")?);
+    assert_is(&rt, text.as_str(), "Mill", "text");
+    assert_is(&rt, text.len(), 4, "length");
+    assert_that(&rt, !text.is_empty(), "a text is not empty");
+    Ok(())
+}
+
 // Texts of no bytes, of as many as lie in the value itself, of one less and of more.
 const COPIED: &[&str] = &[
     "",
@@ -236,16 +264,13 @@ const COPIED: &[&str] = &[
     "Rådhuspladsen (Vesterbrogade)",
 ];
 
-fn assert_text(rt: &impl Abort, text: &Text, want: &str) {
-    let found = (text.as_str(), text.len(), text.is_empty());
-    assert_is(rt, found, (want, want.len(), want == ""), "text");
-}
-
 #[test]
-fn texts_are_made_and_copied(rt: HostRuntime) -> Result<(), Fail> {
+fn copied_texts(rt: HostRuntime) -> Result<(), Fail> {
     for &want in COPIED {
-        assert_text(&rt, &Text::new(String::from_str(rt.alloc(), want)?), want);
-        assert_text(&rt, &Text::copy_of(rt.alloc(), want)?, want);
+        let text = Text::copy_of(rt.alloc(), want)?;
+        assert_is_at(&rt, text.as_str(), want, "copy of", want);
+        assert_is_at(&rt, text.len(), want.len(), "length of", want);
+        assert_is_at(&rt, text.is_empty(), want == "", "emptiness of", want);
     }
     Ok(())
 }
@@ -253,8 +278,9 @@ fn texts_are_made_and_copied(rt: HostRuntime) -> Result<(), Fail> {
 #[test]
 fn lists(rt: HostRuntime) -> Result<(), Fail> {
     let list = List::new([1_u8, 2].to_vec(rt.alloc())?);
-    let found = (list.as_slice(), list.len(), list.is_empty());
-    assert_is(&rt, found, ([1, 2].as_slice(), 2, false), "list");
+    assert_is(&rt, list.as_slice(), &[1, 2], "list");
+    assert_is(&rt, list.len(), 2, "length");
+    assert_that(&rt, !list.is_empty(), "a list is not empty");
     assert_is(&rt, list.into_vec().as_slice(), &[1, 2], "vector");
     Ok(())
 }

@@ -87,12 +87,67 @@ const CONTRADICTS_ITSELF: ZoneFile = ZoneFile {
     ..SKIPS_A_DAY
 };
 
+// Days with the instants at which they begin.
+type Origins = &'static [(i32, i64)];
+
+// Each zone with days of 2024 or of the end of 2011.
+const ORIGINS: &[(ZoneFile, Origins)] = &[
+    (UTC, &[(19_814, 1_711_929_600)]), // 2024-04-01
+    (
+        CENTRAL_EUROPE,
+        // 2024-03-31 and 2024-10-27
+        &[(19_813, 1_711_836_000), (20_023, 1_729_983_600)],
+    ),
+    (
+        SKIPS_A_DAY,
+        // 2011-12-30 and 2011-12-31
+        &[(15_338, 1_325_239_200), (15_339, 1_325_239_200)],
+    ),
+    (
+        GOES_BACK,
+        &[(15_338, 1_325_275_200), (15_339, 1_325_217_600)],
+    ),
+];
+
+// The zone begins these days at these instants.
+fn assert_origins(rt: &impl Abort, alloc: Global, zone: &Zone, origins: Origins) {
+    for &(number, origin) in origins {
+        assert!(rt; number >= -25_567);
+        assert!(rt; number <= 2_932_531);
+        let day = Day::from_number(number);
+        let found = zone.origin(alloc, day);
+        assert_is_at(rt, found, Ok(origin), "origin of day", number);
+    }
+}
+
+#[test]
+fn origins_lie_twelve_hours_before_noon(rt: HostRuntime) -> Result<(), Fail> {
+    for (file, origins) in ORIGINS {
+        assert_origins(&rt, rt.alloc(), &file.zone(rt.alloc())?, origins);
+    }
+    Ok(())
+}
+
 const LENGTHS: &[(ZoneFile, usize)] = &[
     (UTC, 114),
     (CENTRAL_EUROPE, 136),
     (SKIPS_A_DAY, 137),
     (GOES_BACK, 137),
 ];
+
+#[test]
+fn files_have_their_lengths(rt: HostRuntime) -> Result<(), Fail> {
+    for (file, len) in LENGTHS {
+        let bytes = file.bytes(rt.alloc())?;
+        assert_is_at(&rt, bytes.len(), *len, "length of", file.footer);
+    }
+    Ok(())
+}
+
+// That many zero bytes.
+fn zeros(alloc: Global, len: usize) -> Result<Vec<u8>, OutOfMemory> {
+    vec![in alloc; 0; len]
+}
 
 // Why the bytes are no zone file, if they are none.
 fn fault_of(alloc: Global, bytes: &[u8]) -> Option<ZoneFault> {
@@ -110,68 +165,59 @@ fn cut(alloc: Global, file: &[u8], end: usize) -> Option<ZoneFault>
 fn assert_cuts(rt: &impl Abort, alloc: Global, file: &[u8]) {
     for end in 0..file.len() {
         let fault = cut(alloc, file, end);
-        let is_right = if end < 44 {
-            fault == Some(ZoneFault::Unreadable)
-        } else {
-            fault != Some(ZoneFault::OutOfMemory)
-        };
-        assert_is_at(rt, is_right, true, "read or refused, cut before byte", end);
+        let is_memory = fault == Some(ZoneFault::OutOfMemory);
+        assert_is_at(rt, is_memory, false, "no memory, cut before byte", end);
+        if end < 44 {
+            let unreadable = Some(ZoneFault::Unreadable);
+            assert_is_at(rt, fault, unreadable, "cut before byte", end);
+        }
     }
     assert_is(rt, fault_of(alloc, file), None, "the whole file");
 }
 
 #[test]
 fn files_cut_at_each_byte_are_read_or_refused(rt: HostRuntime) -> Result<(), Fail> {
-    for (file, len) in LENGTHS {
-        let bytes = file.bytes(rt.alloc())?;
-        assert_is_at(&rt, bytes.len(), *len, "length of", file.footer);
-        assert_cuts(&rt, rt.alloc(), &bytes);
+    for (file, _) in LENGTHS {
+        assert_cuts(&rt, rt.alloc(), &file.bytes(rt.alloc())?);
     }
     Ok(())
-}
-
-// A file or none, how many bytes zeros behind it make it, and the fault that they are. Bytes after
-// the footer do not matter, so that a file may grow up to the limit, which is included.
-const PADDED: &[(Option<ZoneFile>, usize, Option<ZoneFault>)] = &[
-    (None, 0, Some(ZoneFault::Unreadable)),
-    (None, 1_048_576, Some(ZoneFault::Unreadable)),
-    (None, 1_048_577, Some(ZoneFault::Unreadable)),
-    (Some(UTC), 1_048_576, None),
-    (Some(UTC), 1_048_577, Some(ZoneFault::Unreadable)),
-    (Some(SKIPS_A_DAY), 140, None),
-    // Its footer contradicts its table.
-    (Some(CONTRADICTS_ITSELF), 140, Some(ZoneFault::Unreadable)),
-];
-
-fn padded(alloc: Global, file: &Option<ZoneFile>, len: usize) -> Result<Vec<u8>, OutOfMemory> {
-    let mut bytes = match file {
-        Some(file) => file.bytes(alloc)?,
-        None => Vec::new(alloc),
-    };
-    bytes.resize(len, 0)?;
-    Ok(bytes)
 }
 
 #[test]
 fn bytes_that_are_no_zone_file_are_unreadable(rt: HostRuntime) -> Result<(), Fail> {
-    for (file, len, fault) in PADDED {
-        let found = fault_of(rt.alloc(), &padded(rt.alloc(), file, *len)?);
-        assert_is_at(&rt, found, *fault, "fault of so many bytes:", *len);
+    for len in [0, 1_048_576, 1_048_577] {
+        let fault = fault_of(rt.alloc(), &zeros(rt.alloc(), len)?);
+        let unreadable = Some(ZoneFault::Unreadable);
+        assert_is_at(&rt, fault, unreadable, "fault of so many bytes:", len);
     }
     Ok(())
 }
 
-// Days with the instants at which they begin.
-type Origins = &'static [(i32, i64)];
+// The file of UTC with so many bytes after its footer.
+fn longer_utc(alloc: Global, more: usize) -> Result<Vec<u8>, OutOfMemory> {
+    let mut file = UTC.bytes(alloc)?;
+    file.extend_from_slice(&zeros(alloc, more)?)?;
+    Ok(file)
+}
 
-// The zone begins these days at these instants.
-fn assert_origins(rt: &impl Abort, alloc: Global, zone: &Zone, origins: Origins) {
-    for &(number, origin) in origins {
-        assert!(rt; -25_567 <= number && number <= 2_932_531);
-        let day = Day::from_number(number);
-        let found = zone.origin(alloc, day);
-        assert_is_at(rt, found, Ok(origin), "origin of day", number);
+// Bytes after the footer do not matter, so that the file grows up to the limit and past it.
+#[test]
+fn the_limit_is_included(rt: HostRuntime) -> Result<(), Fail> {
+    for (len, fault) in [(1_048_576, None), (1_048_577, Some(ZoneFault::Unreadable))] {
+        let file = longer_utc(rt.alloc(), len - 114)?;
+        assert_is(&rt, file.len(), len, "length");
+        let found = fault_of(rt.alloc(), &file);
+        assert_is_at(&rt, found, fault, "fault of so many bytes:", len);
     }
+    Ok(())
+}
+
+#[test]
+fn a_footer_that_contradicts_the_table_is_unreadable(rt: HostRuntime) -> Result<(), Fail> {
+    let file = CONTRADICTS_ITSELF.bytes(rt.alloc())?;
+    let fault = fault_of(rt.alloc(), &file);
+    assert_is(&rt, fault, Some(ZoneFault::Unreadable), "fault");
+    Ok(())
 }
 
 // What the clock shows: year, month, day, hour, minute, second and offset.
@@ -197,36 +243,10 @@ fn assert_clocks(rt: &impl Abort, alloc: Global, zone: &Zone, clocks: Clocks) {
     }
 }
 
-// The zone of a file has these days and clocks.
-fn assert_zone(
-    rt: &impl Abort,
-    alloc: Global,
-    file: &[u8],
-    origins: Origins,
-    clocks: Clocks,
-) -> Result<(), Fail> {
-    let zone = Zone::read(alloc, file)?;
-    assert_origins(rt, alloc, &zone, origins);
-    assert_clocks(rt, alloc, &zone, clocks);
-    Ok(())
-}
-
-// Each zone with days of 2024 or of the end of 2011, which begin twelve hours before noon, and with
-// what its clock shows. That of UTC shows the first instant and the last one too.
-const ZONES: &[(ZoneFile, Origins, Clocks)] = &[
-    (
-        UTC,
-        &[(19_814, 1_711_929_600)], // 2024-04-01
-        &[
-            (1_711_958_400, (2024, 4, 1, 8, 0, 0, 0)),
-            (-377_705_023_201, (-9999, 1, 2, 1, 59, 59, 0)),
-            (253_402_207_200, (9999, 12, 30, 22, 0, 0, 0)),
-        ],
-    ),
+const CLOCKS: &[(ZoneFile, Clocks)] = &[
+    (UTC, &[(1_711_958_400, (2024, 4, 1, 8, 0, 0, 0))]),
     (
         CENTRAL_EUROPE,
-        // 2024-03-31 and 2024-10-27
-        &[(19_813, 1_711_836_000), (20_023, 1_729_983_600)],
         &[
             (1_711_837_800, (2024, 3, 30, 23, 30, 0, 3_600)),
             (1_729_989_000, (2024, 10, 27, 2, 30, 0, 7_200)),
@@ -235,13 +255,10 @@ const ZONES: &[(ZoneFile, Origins, Clocks)] = &[
     ),
     (
         SKIPS_A_DAY,
-        // 2011-12-30 and 2011-12-31
-        &[(15_338, 1_325_239_200), (15_339, 1_325_239_200)],
         &[(1_325_268_000, (2011, 12, 31, 8, 0, 0, 50_400))],
     ),
     (
         GOES_BACK,
-        &[(15_338, 1_325_275_200), (15_339, 1_325_217_600)],
         &[
             (1_325_246_400, (2011, 12, 31, 8, 0, 0, 72_000)),
             (1_325_304_000, (2012, 1, 1, 0, 0, 0, 72_000)),
@@ -250,10 +267,9 @@ const ZONES: &[(ZoneFile, Origins, Clocks)] = &[
 ];
 
 #[test]
-fn days_and_clocks_of_small_files(rt: HostRuntime) -> Result<(), Fail> {
-    for (file, origins, clocks) in ZONES {
-        let bytes = file.bytes(rt.alloc())?;
-        assert_zone(&rt, rt.alloc(), &bytes, origins, clocks)?;
+fn clocks_show_local_time(rt: HostRuntime) -> Result<(), Fail> {
+    for (file, clocks) in CLOCKS {
+        assert_clocks(&rt, rt.alloc(), &file.zone(rt.alloc())?, clocks);
     }
     Ok(())
 }
@@ -291,6 +307,12 @@ fn a_clock_shows_what_its_zone_does(rt: HostRuntime) -> Result<(), Fail> {
     Ok(())
 }
 
+// The first and the last instant.
+const ENDS: Clocks = &[
+    (-377_705_023_201, (-9999, 1, 2, 1, 59, 59, 0)),
+    (253_402_207_200, (9999, 12, 30, 22, 0, 0, 0)),
+];
+
 #[test]
 fn instants_have_ends(rt: HostRuntime) -> Result<(), Fail> {
     let zone = UTC.zone(rt.alloc())?;
@@ -299,6 +321,21 @@ fn instants_have_ends(rt: HostRuntime) -> Result<(), Fail> {
         let fault = Err(CivilFault::OutOfRange);
         assert_is_at(&rt, shown, fault, "shown at", instant);
     }
+    assert_clocks(&rt, rt.alloc(), &zone, ENDS);
+    Ok(())
+}
+
+// The zone of the file has these days and clocks.
+fn assert_city(
+    rt: &impl Abort,
+    alloc: Global,
+    file: &[u8],
+    origins: Origins,
+    clocks: Clocks,
+) -> Result<(), Fail> {
+    let zone = Zone::read(alloc, file)?;
+    assert_origins(rt, alloc, &zone, origins);
+    assert_clocks(rt, alloc, &zone, clocks);
     Ok(())
 }
 
@@ -329,6 +366,12 @@ const BERLIN_CLOCKS: Clocks = &[
     (253_370_764_800, (9999, 1, 1, 1, 0, 0, 3_600)),
 ];
 
+#[test]
+fn days_and_clocks_of_berlin(rt: HostRuntime) -> Result<(), Fail> {
+    let (origins, clocks) = (BERLIN_ORIGINS, BERLIN_CLOCKS);
+    assert_city(&rt, rt.alloc(), &cities::BERLIN, origins, clocks)
+}
+
 const NEW_YORK_ORIGINS: Origins = &[
     (-25_567, -2_208_970_800), // 1900-01-01
     (-977, -84_398_400), // 1967-04-30
@@ -350,6 +393,12 @@ const NEW_YORK_CLOCKS: Clocks = &[
     (1_730_613_600, (2024, 11, 3, 1, 0, 0, -18_000)),
 ];
 
+#[test]
+fn days_and_clocks_of_new_york(rt: HostRuntime) -> Result<(), Fail> {
+    let (origins, clocks) = (NEW_YORK_ORIGINS, NEW_YORK_CLOCKS);
+    assert_city(&rt, rt.alloc(), &cities::NEW_YORK, origins, clocks)
+}
+
 const LORD_HOWE_ORIGINS: Origins = &[
     (4_077, 352_215_000), // 1981-03-01
     (19_819, 1_712_322_000), // 2024-04-06
@@ -366,6 +415,12 @@ const LORD_HOWE_CLOCKS: Clocks = &[
     (1_728_142_199, (2024, 10, 6, 1, 59, 59, 37_800)),
     (1_728_142_200, (2024, 10, 6, 2, 30, 0, 39_600)),
 ];
+
+#[test]
+fn days_and_clocks_of_lord_howe(rt: HostRuntime) -> Result<(), Fail> {
+    let (origins, clocks) = (LORD_HOWE_ORIGINS, LORD_HOWE_CLOCKS);
+    assert_city(&rt, rt.alloc(), &cities::LORD_HOWE, origins, clocks)
+}
 
 const APIA_ORIGINS: Origins = &[
     (-25_567, -2_208_947_584), // 1900-01-01
@@ -385,6 +440,12 @@ const APIA_CLOCKS: Clocks = &[
     (1_617_458_400, (2021, 4, 4, 3, 0, 0, 46_800)),
 ];
 
+#[test]
+fn days_and_clocks_of_apia(rt: HostRuntime) -> Result<(), Fail> {
+    let (origins, clocks) = (APIA_ORIGINS, APIA_CLOCKS);
+    assert_city(&rt, rt.alloc(), &cities::APIA, origins, clocks)
+}
+
 const KOLKATA_ORIGINS: Origins = &[
     (-25_567, -2_209_008_070), // 1900-01-01
     (-23_376, -2_019_706_200), // 1906-01-01
@@ -402,16 +463,7 @@ const KOLKATA_CLOCKS: Clocks = &[
 ];
 
 #[test]
-fn days_and_clocks_of_cities(rt: HostRuntime) -> Result<(), Fail> {
-    let cities: [(&[u8], Origins, Clocks); 5] = [
-        (&cities::BERLIN, BERLIN_ORIGINS, BERLIN_CLOCKS),
-        (&cities::NEW_YORK, NEW_YORK_ORIGINS, NEW_YORK_CLOCKS),
-        (&cities::LORD_HOWE, LORD_HOWE_ORIGINS, LORD_HOWE_CLOCKS),
-        (&cities::APIA, APIA_ORIGINS, APIA_CLOCKS),
-        (&cities::KOLKATA, KOLKATA_ORIGINS, KOLKATA_CLOCKS),
-    ];
-    for (file, origins, clocks) in cities {
-        assert_zone(&rt, rt.alloc(), file, origins, clocks)?;
-    }
-    Ok(())
+fn days_and_clocks_of_kolkata(rt: HostRuntime) -> Result<(), Fail> {
+    let (origins, clocks) = (KOLKATA_ORIGINS, KOLKATA_CLOCKS);
+    assert_city(&rt, rt.alloc(), &cities::KOLKATA, origins, clocks)
 }
