@@ -239,7 +239,3 @@ pub ends-asked : (plan : Asked → Plan) (words : List Text) (x command : Comman
     → (a b : Devices) (r s : Result Bool Refusal) → r ≡ s → Ends (plan (asked_by command)) a b s → (asked : Asked) → Asks words asked → Ends (plan asked) a b r
 ends-asked plan words x command is taken read a b r s same ends = as-asked words x taken read (λ asked. Ends (plan asked) a b r)
     (subst (λ (y : Command). Ends (plan (asked_by y)) a b r) (sym is) (subst (λ (e : Result Bool Refusal). Ends (plan (asked_by command)) a b e) (sym same) ends))
-
--- the same of words that are not taken
-pub as-untaken : (words : List Text) → takes gtfs_app words ≡ false → (P : Asked → Type 0) → P Untaken → (asked : Asked) → Asks words asked → P asked
-as-untaken words not P h asked asks = subst P (one-asked words Untaken asked not asks) h

@@ -21,7 +21,7 @@ use Rattle.gtfs_cli.specs.Seen.{Output}
 use Rattle.gtfs_cli.specs.Sending.{or_none, IsSendingCause, PrintsText}
 use Rattle.gtfs_cli.specs.declared.commands.refusal.Refusal.{Refusal}
 use Rattle.gtfs_cli.specs.declared.commands.refusal.Refusal.TheVariants.{UnknownStop, UntilBeforeFrom, OutOfMemory}
-use Rattle.gtfs_cli.specs.declared.commands.values.Values.{Values}
+use Rattle.gtfs_cli.specs.declared.commands.values.Request.{Request as LentRequest}
 pub use Rattle.gtfs_cli.proofs.FoldersRead.{has-passing}
 use Rattle.gtfs_cli.proofs.Plans.{as-it-is, no-cause, or-none, prints-as}
 
@@ -103,7 +103,7 @@ printed-in f stop r y z same ds before after ended prints lists =
 
 -- ---- of the folders
 
-module _ (limit : ℕ) (held : Option Store) (asked : BoardTexts) (feed : Feed) (z : Zone) (v : Values) (h : HoldsFeed limit held asked.dir feed) (hz : HoldsZone limit held asked.zone z)
+module _ (limit : ℕ) (held : Option Store) (asked : BoardTexts) (feed : Feed) (z : Zone) (v : LentRequest) (h : HoldsFeed limit held asked.dir feed) (hz : HoldsZone limit held asked.zone z)
     (are : AreValues asked v) where
   abbrev setting : Setting limit held asked
   setting = record {

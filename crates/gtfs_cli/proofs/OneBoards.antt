@@ -32,7 +32,7 @@ use Rattle.gtfs_cli.proofs.ZoneEnds.{excludes-file, excludes-zone, one-file, one
 one_boards_text : (y z : Zone) → SaysSame y z → (f : Content) (qs : List StopRequest) (t u : List ℕ) → AreBoards f y qs t → AreBoards f z qs u → t ≡ u
 one_boards_text y z same f [] t u a b = a ∙ sym b
 one_boards_text y z same f (q ∷ qs) t u a b =
-    let page = one_text y z same f q.texts.stop q.request a.0 b.0 a.2 b.2 in
+    let page = one_text y z same f q.texts.stop q.values a.0 b.0 a.2 b.2 in
     let more = one_boards_text y z same f qs a.1 b.1 a.3 b.3 in
     a.4 ∙ ap₂ (λ (x w : List ℕ). request_heading q.texts ++ x ++ w) page more ∙ sym b.4
 

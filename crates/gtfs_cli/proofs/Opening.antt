@@ -16,7 +16,7 @@ use Rattle.gtfs_board.specs.Shown.{IsShown}
 use Rattle.gtfs_board.specs.Span.{is_span}
 use Rattle.gtfs_board.specs.declared.key.Key.{Key as LentKey}
 use Rattle.gtfs_board.specs.declared.span.Span.{Span}
-use Rattle.gtfs_cli.specs.Boards.{GoesOut, ListsBoard, OfBoard}
+use Rattle.gtfs_cli.specs.Boards.{ListsBoard}
 use Rattle.gtfs_cli.specs.OptionValues.{instant_at, Request}
 
 -- a span that ends before it begins is bad
@@ -51,14 +51,3 @@ lists-board f z stop r s x y after ds from_x until_y x_from y_until same_after n
           (subst (λ (u : ℤ). IsBoard (timed r.times f) (zone_origin z) stop u s.until after (keys_of ds)) from_is board));
       shown = shown;
     }
-
--- lines of that board went out so
-pub of-board : (Out : GoesOut) (f : Content) (z y : Zone) (stop : List ℕ) (r : Request) (ds left : List Listed) (before after : Option (List ℕ)) (n : ℕ) → y ≡ z
-    → ListsBoard f z stop r ds → Out y r.limit ds left before after n → OfBoard Out f z stop r before after
-of-board Out f z y stop r ds left before after n same lists out = record {
-  departures = ds;
-  left = left;
-  lines = n;
-  lists = lists;
-  out = subst (λ (w : Zone). Out w r.limit ds left before after n) same out;
-}

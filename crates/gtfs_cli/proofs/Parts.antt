@@ -1,6 +1,6 @@
 -- Texts that go out part by part, and calls that send them.
 use Rattle.std.proofs.Common.{◌≡◌, ◌∙◌, ap, sym, subst, refl, ℕ, List, [], ◌++◌, append-nil, append_assoc, take, drop, take-append-drop, Option, None, Some, Result, Ok, Err}
-use Rattle.std.specs.Prelude.{IfErr, OnOk, OnErr}
+use Rattle.std.specs.Prelude.{IfErr, OnErr}
 use Rattle.std.specs.Io.KnownBytes.{Appends, Keeps}
 use Rattle.std.proofs.KnownBytes.{Appends-nil, Appends-trans}
 use Rattle.gtfs_devices.specs.declared.output.OutFault.{OutFault}
@@ -58,10 +58,6 @@ pub first-sent : {A : Type 0} (r : Result A OutFault) (a b : Option (List ℕ)) 
     → OnErr r (SendsBeginning a b text)
 first-sent (Ok x) a b text h = tt
 first-sent (Err fault) a b text h = some-sent a b text fault.written h
-
-pub both-then : {A B : Type 0} (r : Result A B) (P Q R : Type 0) → (P → Q → R) → OnOk r P → OnOk r Q → OnOk r R
-both-then (Ok x) P Q R f p q = f p q
-both-then (Err e) P Q R f p q = tt
 
 pub err-then : {A B : Type 0} (r : Result A B) (P Q : Type 0) → (P → Q) → OnErr r P → OnErr r Q
 err-then (Ok x) P Q f h = tt

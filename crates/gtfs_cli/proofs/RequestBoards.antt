@@ -69,11 +69,11 @@ module _ (f : Content) (z : Zone) (q : StopRequest) where
 
 -- the same, of a board in a zone that is this one
 pub one-in : {A : Type 0} (f : Content) (q : StopRequest) (y z : Zone) → y ≡ z → (ds : List Listed) (a b : Output) (r : Result A Refusal)
-    → (ListsBoard f y q.texts.stop q.request ds → PrintsText (IsOneText f y q) (BeginsBoard f y q) (BeginsWhole f y q) (λ _. ⊥) a b r)
-    → ListsBoard f z q.texts.stop q.request ds → PrintsText (IsOneText f z q) (BeginsBoard f z q) (BeginsWhole f z q) (λ _. ⊥) a b r
+    → (ListsBoard f y q.texts.stop q.values ds → PrintsText (IsOneText f y q) (BeginsBoard f y q) (BeginsWhole f y q) (λ _. ⊥) a b r)
+    → ListsBoard f z q.texts.stop q.values ds → PrintsText (IsOneText f z q) (BeginsBoard f z q) (BeginsWhole f z q) (λ _. ⊥) a b r
 one-in f q y z same ds a b r prints lists =
     subst (λ (w : Zone). PrintsText (IsOneText f w q) (BeginsBoard f w q) (BeginsWhole f w q) (λ _. ⊥) a b r) same
-    (prints (subst (λ (w : Zone). ListsBoard f w q.texts.stop q.request ds) (sym same) lists))
+    (prints (subst (λ (w : Zone). ListsBoard f w q.texts.stop q.values ds) (sym same) lists))
 
 -- ---- one after another
 

@@ -8,7 +8,7 @@ use Rattle.gtfs_rows.specs.declared.parts.Parts.{Parts}
 use Rattle.gtfs_board.specs.Board.{is_stop}
 use Rattle.gtfs_board.proofs.Opened.{stop_none, stop_some}
 use Rattle.gtfs_times.specs.declared.times.Times.{Times}
-use Rattle.gtfs_cli.specs.Requests.{fault_in, judged, request_from, RequestTexts, stop_request, StopRequest}
+use Rattle.gtfs_cli.specs.Requests.{fault_in, judged, stop_request, StopRequest}
 use Rattle.gtfs_cli.specs.OptionValues.{instant_at}
 use Rattle.gtfs_cli.specs.declared.commands.request_fault.RequestFault.TheVariants.{UnknownStop, UntilBeforeFrom}
 
@@ -19,20 +19,16 @@ has_stop p s number (Some n) at = (stop_some p s (number n) (sym at)).1.1
 
 -- ---- what a line asks for
 
--- its texts, and their values
-abbrev asked_with : Times → RequestTexts → Option StopRequest
-asked_with times t = option_map (λ r. record { texts = t; request = r }) (request_from times t)
-
 -- ---- what is the matter with it
 
 module _ (times : Times) (line : List ℕ) (q : StopRequest) (asks : Some q ≡ stop_request times line) (f : Content) (origin : Origins) (n : ℕ) where
   pub stop_unknown : is_stop f q.texts.stop ≡ false → Some (UnknownStop n) ≡ fault_in (judged f origin n (stop_request times line))
   stop_unknown unknown = rw (sym asks, unknown) refl
 
-  pub ends_before : is_stop f q.texts.stop ≡ true → int_lt (instant_at origin q.request.until) (instant_at origin q.request.from) ≡ true
+  pub ends_before : is_stop f q.texts.stop ≡ true → int_lt (instant_at origin q.values.until) (instant_at origin q.values.from) ≡ true
       → Some (UntilBeforeFrom n) ≡ fault_in (judged f origin n (stop_request times line))
   ends_before known before = rw (sym asks, known, before) refl
 
-  pub nothing_wrong : is_stop f q.texts.stop ≡ true → int_lt (instant_at origin q.request.until) (instant_at origin q.request.from) ≡ false
+  pub nothing_wrong : is_stop f q.texts.stop ≡ true → int_lt (instant_at origin q.values.until) (instant_at origin q.values.from) ≡ false
       → None ≡ fault_in (judged f origin n (stop_request times line))
   nothing_wrong known forward = rw (sym asks, known, forward) refl

@@ -15,10 +15,6 @@ too_many (a ∷ b ∷ c ∷ d ∷ []) more = cc
 too_many (a ∷ b ∷ c ∷ d ∷ e ∷ []) more = cc
 too_many (a ∷ b ∷ c ∷ d ∷ e ∷ f ∷ rest) more = refl
 
-pub no_stop : (fs : List (List ℕ)) → slice_get fs 0 ≡ None → None ≡ texts_in fs
-no_stop [] none = refl
-no_stop (a ∷ rest) none = cc
-
 pub are_texts : (fs : List (List ℕ)) (stop from until : List ℕ) (limit after : Option (List ℕ)) → is_some (slice_get fs 5) ≡ false
     → slice_get fs 0 ≡ Some stop → slice_get fs 1 ≡ Some from → slice_get fs 2 ≡ Some until
     → limit ≡ option_and_then text_if_any (slice_get fs 3) → after ≡ option_and_then text_if_any (slice_get fs 4)

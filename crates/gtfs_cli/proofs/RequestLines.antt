@@ -111,7 +111,7 @@ module _ (f : Content) (origin : Origins) (times : Times) where
   -- ---- lines that were judged
 
   judged_same : (n : ℕ) (q r : StopRequest) → judged f origin n (Some q) ≡ Ok r → q ≡ r
-  judged_same n q r = go (is_stop f q.texts.stop) (int_lt (instant_at origin q.request.until) (instant_at origin q.request.from))
+  judged_same n q r = go (is_stop f q.texts.stop) (int_lt (instant_at origin q.values.until) (instant_at origin q.values.from))
     where
       go : (known before : Bool) → (if not known then Err (UnknownStop n) else if before then Err (UntilBeforeFrom n) else Ok q) ≡ Ok r → q ≡ r
       go false before is = cc

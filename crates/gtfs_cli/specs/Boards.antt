@@ -1,5 +1,5 @@
 -- What `gtfs board` prints: a page of the board that the words ask for.
-use Rattle.std.specs.Prelude.{◌≡◌, ⊤, ℕ, true, false, All, List, [], Option, Some, option_map}
+use Rattle.std.specs.Prelude.{◌≡◌, ⊤, ℕ, true, false, All, List, [], Option, Some, option_map, Result}
 use Rattle.gtfs_days.specs.Zone.{zone_origin}
 use Rattle.gtfs_days.specs.declared.zone.Zone.{Zone}
 use Rattle.gtfs_devices.specs.Folder.{Store}
@@ -23,9 +23,10 @@ use Rattle.gtfs_cli.specs.HeldFiles.{HoldsTables}
 use Rattle.gtfs_cli.specs.BoardSetting.{EndsBeforeItBegins, LacksStop, LiesBefore, Setting}
 use Rattle.gtfs_cli.specs.Judging.{feed, followed_by, sending, values, zone, Judged}
 use Rattle.gtfs_cli.specs.Plan.{passed, prints, Plan}
+use Rattle.gtfs_cli.specs.Sending.{Output, PrintsText}
 use Rattle.gtfs_cli.specs.declared.commands.refusal.Refusal.{Refusal}
 use Rattle.gtfs_cli.specs.declared.commands.refusal.Refusal.TheVariants.{HasErrors, UnknownStop, UntilBeforeFrom, OutOfMemory}
-use Rattle.gtfs_cli.specs.declared.commands.values.Values.{Values}
+use Rattle.gtfs_cli.specs.declared.commands.values.Request.{Request as LentRequest}
 
 -- ---- of a feed, a zone and the values of the options
 
@@ -53,6 +54,12 @@ pub record OfBoard (Out : GoesOut) (f : Content) (z : Zone) (stop : List ℕ) (r
 -- what goes out so of that board is this text, with nothing before it
 abbrev pub IsTextOf : GoesOut → Content → Zone → List ℕ → Request → List ℕ → Type 0
 IsTextOf Out f z stop r text = OfBoard Out f z stop r (Some []) (Some text)
+
+-- how it ends to print a page of an open board with these departures: where they are those of a board with this limit, a page of that
+-- board went out, or a part of the page
+abbrev pub PrintsPage : Zone → List Listed → ℕ → Output → Output → {T : Type 0} → Result T Refusal → Type 0
+PrintsPage z rest limit before after ended = (f : Content) (stop : List ℕ) (r : Request) → r.limit ≡ limit → ListsBoard f z stop r rest
+    → PrintsText (IsTextOf IsPage f z stop r) (IsTextOf IsCutShort f z stop r) (IsTextOf IsStopped f z stop r) (λ _. ⊥) before after ended
 
 -- why no board is opened
 abbrev pub IsOpeningCause : Content → Zone → List ℕ → Request → Refusal → Type 0
@@ -105,11 +112,11 @@ IsFeedCause d dir OutOfMemory = ⊤
 IsFeedCause d dir _ = ⊥
 
 -- the request that values are
-abbrev pub request_of : Values → Request
+abbrev pub request_of : LentRequest → Request
 request_of v = record { from = v.from; until = v.until; limit = v.limit; after = option_map plain_key v.after; times = v.times }
 
 -- each value is that of its text, and each instant or service day one that a board can have
-pub record AreValues (asked : BoardTexts) (v : Values) : Type 0 where
+pub record AreValues (asked : BoardTexts) (v : LentRequest) : Type 0 where
   pub request : IsRequest asked (request_of v)
   pub from_sound : IsSound v.from
   pub until_sound : IsSound v.until

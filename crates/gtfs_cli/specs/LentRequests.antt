@@ -2,7 +2,7 @@
 use Rattle.std.specs.Prelude.{option_map}
 use Rattle.gtfs_cli.specs.Boards.{request_of}
 use Rattle.gtfs_cli.specs.Requests.{RequestTexts, StopRequest}
-use Rattle.gtfs_cli.specs.declared.commands.requests.LineRequest.{LineRequest}
+use Rattle.gtfs_cli.specs.declared.commands.requests.StopRequest.{StopRequest as LentRequest}
 use Rattle.gtfs_cli.specs.declared.commands.requests.RequestTexts.{RequestTexts as LentTexts}
 
 -- the texts that stand in a line
@@ -16,5 +16,5 @@ request_texts_of t = record {
 }
 
 -- what a line asks for
-abbrev pub stop_request_of : LineRequest → StopRequest
-stop_request_of q = record { texts = request_texts_of q.texts; request = request_of q.values }
+abbrev pub stop_request_of : LentRequest → StopRequest
+stop_request_of q = record { texts = request_texts_of q.texts; values = request_of q.values }

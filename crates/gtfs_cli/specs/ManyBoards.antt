@@ -24,7 +24,7 @@ use Rattle.gtfs_cli.specs.declared.commands.request_fault.RequestFault.{RequestF
 
 -- what goes out so of the board of a request is this text
 abbrev pub IsRequestText : GoesOut → Content → Zone → StopRequest → List ℕ → Type 0
-IsRequestText Out f z q text = IsTextOf Out f z q.texts.stop q.request text
+IsRequestText Out f z q text = IsTextOf Out f z q.texts.stop q.values text
 
 -- the text has the heading of each request, and below it the lines that `gtfs board` prints for it
 abbrev pub AreBoards : Content → Zone → List StopRequest → List ℕ → Type 0

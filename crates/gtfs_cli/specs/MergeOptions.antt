@@ -1,5 +1,5 @@
 -- The values of the options of `gtfs merge`.
-use Rattle.std.specs.Prelude.{◌≡◌, ℕ, ℤ, Bool, codes, is_some, IsSome, List, [], ◌∷◌, Option, Some, None, option_map}
+use Rattle.std.specs.Prelude.{◌≡◌, ℕ, ℤ, Bool, codes, is_some, List, [], ◌∷◌, Option, Some, None, option_map}
 use Rattle.std.specs.Result.{result_ok}
 use Rattle.clap.specs.Words.{Text}
 use Rattle.gtfs_field.specs.Kinds.{count_of, date_of}
@@ -33,11 +33,3 @@ pub record MergeRequest : Type 0 where
 pub record IsMergeRequest (asked : MergeTexts) (r : MergeRequest) : Type 0 where
   pub near : near_of asked.near ≡ Some r.near
   pub cutoff : cutoff_of asked.cutoff ≡ Some r.cutoff
-
--- each option has its value
-abbrev pub HasMergeValues : MergeTexts → Type 0
-HasMergeValues asked = (r : MergeRequest) × IsMergeRequest asked r
-
--- one of them has none
-abbrev pub HasBadMergeValue : MergeTexts → Type 0
-HasBadMergeValue asked = IsSome (first_bad_merge asked)

@@ -12,10 +12,10 @@ use Rattle.gtfs_commands.specs.Words.{MergeTexts}
 use Rattle.gtfs_cli.specs.MergeOptions.{MergeRequest}
 use Rattle.gtfs_cli.specs.Merges.{file_text, IsFolderMerge}
 use Rattle.gtfs_cli.specs.NamesReport.{names_report}
-use Rattle.gtfs_cli.specs.declared.commands.merge_values.MergeValues.{MergeValues}
+use Rattle.gtfs_cli.specs.declared.commands.merge_values.MergeRequest.{MergeRequest as LentRequest}
 
 -- the request that values are
-abbrev pub merge_request_of : MergeValues → MergeRequest
+abbrev pub merge_request_of : LentRequest → MergeRequest
 merge_request_of v = record { near = v.near; cutoff = v.cutoff }
 
 -- the feed is the merge of both folders, and the names tell its report

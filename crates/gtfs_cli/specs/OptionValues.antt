@@ -1,5 +1,5 @@
 -- What the values of the options of a board say.
-use Rattle.std.specs.Prelude.{◌≡◌, ℕ, ◌==◌, Bool, is_some, IsSome, if◌then◌else◌, codes, List, [], ◌∷◌, Option, Some, None, option_map, ℤ}
+use Rattle.std.specs.Prelude.{◌≡◌, ℕ, ◌==◌, Bool, is_some, if◌then◌else◌, codes, List, [], ◌∷◌, Option, Some, None, option_map, ℤ}
 use Rattle.std.specs.Result.{result_ok}
 use Rattle.clap.specs.Words.{Text}
 use Rattle.gtfs_field.specs.Kinds.{count_of, date_of, instant_of}
@@ -55,10 +55,6 @@ judged_board asked = (codes "--from", is_some (moment_of asked.from)) ∷ (codes
 abbrev pub first_bad : BoardTexts → Option Text
 first_bad asked = first_of_bad (judged_board asked)
 
--- one of them has none
-abbrev pub HasBadValue : BoardTexts → Type 0
-HasBadValue asked = IsSome (first_bad asked)
-
 -- what the options ask for
 pub record Request : Type 0 where
   pub from : Moment
@@ -74,7 +70,3 @@ pub record IsRequest (asked : BoardTexts) (r : Request) : Type 0 where
   pub limit : limit_of asked.limit ≡ Some r.limit
   pub after : after_of asked.after ≡ Some r.after
   pub times : times_of asked.interpolate ≡ r.times
-
--- each option has its value
-abbrev pub HasValues : BoardTexts → Type 0
-HasValues asked = (r : Request) × IsRequest asked r

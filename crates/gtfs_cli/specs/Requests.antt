@@ -64,11 +64,11 @@ request_from times t = option_and_then (λ from. option_and_then (λ until. opti
 -- a stop's board that is asked for
 pub record StopRequest : Type 0 where
   pub texts : RequestTexts
-  pub request : Request
+  pub values : Request
 
 -- what a line asks for, where it has as many fields as wanted and none has a bad value
 abbrev pub stop_request : Times → List ℕ → Option StopRequest
-stop_request times line = option_and_then (λ t. option_map (λ r. record { texts = t; request = r }) (request_from times t)) (request_texts line)
+stop_request times line = option_and_then (λ t. option_map (λ r. record { texts = t; values = r }) (request_from times t)) (request_texts line)
 
 -- ---- in a feed and a zone
 
@@ -76,7 +76,7 @@ stop_request times line = option_and_then (λ t. option_map (λ r. record { text
 abbrev pub judged : Content → Origins → ℕ → Option StopRequest → Result StopRequest RequestFault
 judged f origin number None = Err (BadRequest number)
 judged f origin number (Some r) = if not (is_stop f r.texts.stop) then Err (UnknownStop number)
-    else if int_lt (instant_at origin r.request.until) (instant_at origin r.request.from) then Err (UntilBeforeFrom number) else Ok r
+    else if int_lt (instant_at origin r.values.until) (instant_at origin r.values.from) then Err (UntilBeforeFrom number) else Ok r
 
 abbrev pub onto_all : {A E : Type 0} → A → Result (List A) E → Result (List A) E
 onto_all x (Ok xs) = Ok (x ∷ xs)

@@ -1,5 +1,5 @@
 -- The values of the options of `gtfs timetable`.
-use Rattle.std.specs.Prelude.{◌≡◌, ℕ, ℤ, Bool, bytes_eq, codes, if◌then◌else◌, is_some, IsSome, List, [], ◌∷◌, Option, Some, None, Ok}
+use Rattle.std.specs.Prelude.{◌≡◌, ℕ, ℤ, Bool, bytes_eq, codes, if◌then◌else◌, is_some, List, [], ◌∷◌, Option, Some, None, Ok}
 use Rattle.std.specs.Result.{result_ok}
 use Rattle.clap.specs.Words.{Text}
 use Rattle.gtfs_field.specs.Kinds.{date_of}
@@ -31,11 +31,3 @@ pub record IsTimetableRequest (asked : TimetableTexts) (r : TimetableRequest) : 
   pub day : date_of asked.date ≡ Ok r.day
   pub direction : direction_of asked.direction ≡ Some r.direction
   pub times : times_of asked.interpolate ≡ r.times
-
--- each option has its value
-abbrev pub HasTimetableValues : TimetableTexts → Type 0
-HasTimetableValues asked = (r : TimetableRequest) × IsTimetableRequest asked r
-
--- one of them has none
-abbrev pub HasBadTimetableValue : TimetableTexts → Type 0
-HasBadTimetableValue asked = IsSome (first_bad_timetable asked)

@@ -16,12 +16,12 @@ use Rattle.gtfs_cli.specs.Judging.{feed, followed_by, sending, values, Judged}
 use Rattle.gtfs_cli.specs.Plan.{passed, prints, Plan}
 use Rattle.gtfs_cli.specs.declared.commands.refusal.Refusal.{Refusal}
 use Rattle.gtfs_cli.specs.declared.commands.refusal.Refusal.TheVariants.{UnknownRoute, OutOfMemory}
-use Rattle.gtfs_cli.specs.declared.commands.timetable_values.TimetableValues.{TimetableValues}
+use Rattle.gtfs_cli.specs.declared.commands.timetable_values.TimetableRequest.{TimetableRequest as LentRequest}
 
 -- ---- the values of the options
 
 -- the request that values are
-abbrev pub timetable_request_of : TimetableValues → TimetableRequest
+abbrev pub timetable_request_of : LentRequest → TimetableRequest
 timetable_request_of v = record { day = v.day; direction = v.direction; times = v.times }
 
 -- ---- the text of a timetable

@@ -5,12 +5,12 @@ use Rattle.clap.specs.Words.{Row, Text, first_of, subcommand_of, takes}
 use Rattle.clap.specs.declared.parser.matches.ValueSource.{ValueSource}
 use Rattle.clap.specs.declared.parser.matches.ValueSource.TheVariants as source
 use Rattle.gtfs_commands.specs.CommandLine.{gtfs_app}
-use Rattle.gtfs_commands.specs.declared.command.BoardWords.{BoardWords}
-use Rattle.gtfs_commands.specs.declared.command.BoardsWords.{BoardsWords}
+use Rattle.gtfs_commands.specs.declared.command.BoardTexts.{BoardTexts as LentBoardTexts}
+use Rattle.gtfs_commands.specs.declared.command.BoardsTexts.{BoardsTexts as LentBoardsTexts}
 use Rattle.gtfs_commands.specs.declared.command.Command.{Command}
 use Rattle.gtfs_commands.specs.declared.command.Command.TheVariants.{Board, Boards, Check, Merge, Timetable}
-use Rattle.gtfs_commands.specs.declared.command.MergeWords.{MergeWords}
-use Rattle.gtfs_commands.specs.declared.command.TimetableWords.{TimetableWords}
+use Rattle.gtfs_commands.specs.declared.command.MergeTexts.{MergeTexts as LentMergeTexts}
+use Rattle.gtfs_commands.specs.declared.command.TimetableTexts.{TimetableTexts as LentTimetableTexts}
 
 -- ---- the texts of each command, as they stand in the words
 
@@ -48,7 +48,7 @@ pub record MergeTexts : Type 0 where
   pub near : Option Text
   pub cutoff : Option Text
 
-abbrev pub texts_of : BoardWords → BoardTexts
+abbrev pub texts_of : LentBoardTexts → BoardTexts
 texts_of words = record {
   dir = words.dir.now;
   zone = words.zone.now;
@@ -60,7 +60,7 @@ texts_of words = record {
   interpolate = words.interpolate;
 }
 
-abbrev pub boards_texts_of : BoardsWords → BoardsTexts
+abbrev pub boards_texts_of : LentBoardsTexts → BoardsTexts
 boards_texts_of words = record {
   dir = words.dir.now;
   zone = words.zone.now;
@@ -68,7 +68,7 @@ boards_texts_of words = record {
   interpolate = words.interpolate;
 }
 
-abbrev pub timetable_texts_of : TimetableWords → TimetableTexts
+abbrev pub timetable_texts_of : LentTimetableTexts → TimetableTexts
 timetable_texts_of words = record {
   dir = words.dir.now;
   route = words.route.now;
@@ -77,7 +77,7 @@ timetable_texts_of words = record {
   interpolate = words.interpolate;
 }
 
-abbrev pub merge_texts_of : MergeWords → MergeTexts
+abbrev pub merge_texts_of : LentMergeTexts → MergeTexts
 merge_texts_of words = record {
   a = words.a.now;
   b = words.b.now;

@@ -6,19 +6,19 @@ pub enum Command<'w> {
     /// `gtfs check`: what is wrong with the feed in this folder.
     Check(&'w str),
     /// `gtfs board`: the departures at a stop.
-    Board(BoardWords<'w>),
+    Board(BoardTexts<'w>),
     /// `gtfs boards`: the departures that each line of a file asks for.
-    Boards(BoardsWords<'w>),
+    Boards(BoardsTexts<'w>),
     /// `gtfs timetable`: the runs of a route on a date.
-    Timetable(TimetableWords<'w>),
+    Timetable(TimetableTexts<'w>),
     /// `gtfs merge`: one feed of two.
-    Merge(MergeWords<'w>),
+    Merge(MergeTexts<'w>),
 }
 
 /// What was given to `gtfs board`:
 /// each text as it stands in the words, and whether the flag stands there.
 #[derive(Clone, Copy)]
-pub struct BoardWords<'w> {
+pub struct BoardTexts<'w> {
     /// The folder of the feed.
     pub dir: &'w str,
     /// The file of the time zone.
@@ -40,7 +40,7 @@ pub struct BoardWords<'w> {
 /// What was given to `gtfs boards`:
 /// each text as it stands in the words, and whether the flag stands there.
 #[derive(Clone, Copy)]
-pub struct BoardsWords<'w> {
+pub struct BoardsTexts<'w> {
     /// The folder of the feed.
     pub dir: &'w str,
     /// The file of the time zone.
@@ -54,7 +54,7 @@ pub struct BoardsWords<'w> {
 /// What was given to `gtfs timetable`:
 /// each text as it stands in the words, and whether the flag stands there.
 #[derive(Clone, Copy)]
-pub struct TimetableWords<'w> {
+pub struct TimetableTexts<'w> {
     /// The folder of the feed.
     pub dir: &'w str,
     /// The `route_id` of the route.
@@ -69,7 +69,7 @@ pub struct TimetableWords<'w> {
 
 /// What was given to `gtfs merge`, each a text as it stands in the words.
 #[derive(Clone, Copy)]
-pub struct MergeWords<'w> {
+pub struct MergeTexts<'w> {
     /// The folder of the feed whose ids stay.
     pub a: &'w str,
     /// The folder of the feed that is added.

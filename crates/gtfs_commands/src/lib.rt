@@ -26,7 +26,7 @@ mod fault;
 mod law;
 mod read;
 
-pub use command::{BoardWords, BoardsWords, Command, MergeWords, TimetableWords};
+pub use command::{BoardTexts, BoardsTexts, Command, MergeTexts, TimetableTexts};
 pub use fault::WordsFault;
 pub use law::words_ask_for_one;
 pub use read::read_words;

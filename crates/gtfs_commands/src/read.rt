@@ -5,7 +5,7 @@ ghost use Rattle.gtfs_commands.specs.Asked.{boards_texts_of, is_flagged, is_from
 ghost use Rattle.gtfs_commands.specs.CommandLine.{gtfs_app};
 ghost use Rattle.gtfs_commands.specs.Untaken.{no_memory, IsFaultOf};
 
-use crate::command::{BoardWords, BoardsWords, Command, MergeWords, TimetableWords};
+use crate::command::{BoardTexts, BoardsTexts, Command, MergeTexts, TimetableTexts};
 use crate::definitions::gtfs;
 use crate::fault::{WordsFault, fault_of};
 use clap::ArgMatches;
@@ -56,12 +56,12 @@ fn command_named<'w>(name: &str, given: &ArgMatches<'w>) -> Option<Command<'w>>
     }
 }
 
-fn board_words<'w>(given: &ArgMatches<'w>) -> Option<BoardWords<'w>>
+fn board_words<'w>(given: &ArgMatches<'w>) -> Option<BoardTexts<'w>>
     ensures value { IfSome result (λ words. GivesBoard (rows_of (found_of given.now))
         (texts_of words)) }
     ensures given { HasBoard (rows_of (found_of given.now)) → IsSome result }
 {
-    Some(BoardWords {
+    Some(BoardTexts {
         dir: given_text(given, "DIR")?,
         zone: given_text(given, "zone")?,
         stop: given_text(given, "stop")?,
@@ -73,12 +73,12 @@ fn board_words<'w>(given: &ArgMatches<'w>) -> Option<BoardWords<'w>>
     })
 }
 
-fn boards_words<'w>(given: &ArgMatches<'w>) -> Option<BoardsWords<'w>>
+fn boards_words<'w>(given: &ArgMatches<'w>) -> Option<BoardsTexts<'w>>
     ensures value { IfSome result (λ words. GivesBoards (rows_of (found_of given.now))
         (boards_texts_of words)) }
     ensures given { HasBoards (rows_of (found_of given.now)) → IsSome result }
 {
-    Some(BoardsWords {
+    Some(BoardsTexts {
         dir: given_text(given, "DIR")?,
         zone: given_text(given, "zone")?,
         requests: given_text(given, "requests")?,
@@ -86,12 +86,12 @@ fn boards_words<'w>(given: &ArgMatches<'w>) -> Option<BoardsWords<'w>>
     })
 }
 
-fn timetable_words<'w>(given: &ArgMatches<'w>) -> Option<TimetableWords<'w>>
+fn timetable_words<'w>(given: &ArgMatches<'w>) -> Option<TimetableTexts<'w>>
     ensures value { IfSome result (λ words. GivesTimetable (rows_of (found_of given.now))
         (timetable_texts_of words)) }
     ensures given { HasTimetable (rows_of (found_of given.now)) → IsSome result }
 {
-    Some(TimetableWords {
+    Some(TimetableTexts {
         dir: given_text(given, "DIR")?,
         route: given_text(given, "route")?,
         date: given_text(given, "date")?,
@@ -100,12 +100,12 @@ fn timetable_words<'w>(given: &ArgMatches<'w>) -> Option<TimetableWords<'w>>
     })
 }
 
-fn merge_words<'w>(given: &ArgMatches<'w>) -> Option<MergeWords<'w>>
+fn merge_words<'w>(given: &ArgMatches<'w>) -> Option<MergeTexts<'w>>
     ensures value { IfSome result (λ words. GivesMerge (rows_of (found_of given.now))
         (merge_texts_of words)) }
     ensures given { HasMerge (rows_of (found_of given.now)) → IsSome result }
 {
-    Some(MergeWords {
+    Some(MergeTexts {
         a: given_text(given, "A")?,
         b: given_text(given, "B")?,
         out: given_text(given, "OUT")?,

@@ -1,20 +1,18 @@
-ghost use Rattle.std.specs.Prelude.{◌≡◌, ℕ, List, IfErr, IfOk};
-ghost use Rattle.gtfs_rows.specs.Content.{Content};
+ghost use Rattle.std.specs.Prelude.{◌≡◌, IfErr, IfOk};
 ghost use Rattle.gtfs_rows.specs.Views.{content_of_parts};
 ghost use Rattle.gtfs_board.specs.Page.{IsCutShort, IsPage, IsStopped};
 ghost use Rattle.gtfs_commands.specs.Words.{texts_of};
-ghost use Rattle.gtfs_cli.specs.Boards.{board_plan, request_of, AreValues, IsOpeningCause, IsTextOf, ListsBoard};
-ghost use Rattle.gtfs_cli.specs.OptionValues.{Request};
+ghost use Rattle.gtfs_cli.specs.Boards.{board_plan, request_of, AreValues, IsOpeningCause, IsTextOf, ListsBoard, PrintsPage};
 ghost use Rattle.gtfs_cli.specs.Plan.{answer_of, Ends};
 ghost use Rattle.gtfs_cli.specs.Sending.{or_none, PrintsText};
 
 use crate::commands::feed::read_feed;
 use crate::commands::refusal::Refusal;
-use crate::commands::values::{Values, read_values};
+use crate::commands::values::{Request, read_values};
 use crate::commands::zone_file::read_zone;
 use crate::seen::{DevicesSeen, OutSeen};
 use gtfs_board::{Board, BoardFault, Feed, PageFault, Span, write_page};
-use gtfs_commands::BoardWords;
+use gtfs_commands::BoardTexts;
 use gtfs_days::Zone;
 use gtfs_table::{Folders, Out};
 use std::alloc::Global;
@@ -27,7 +25,7 @@ use std::hash::RandomState;
 pub(super) fn print_board<'w, F: Folders, O: Out>(
     alloc: Global,
     random: RandomState,
-    words: &BoardWords<'w>,
+    words: &BoardTexts<'w>,
     folders: &mut F,
     out: &mut O,
 ) -> Result<(), Refusal<'w>>
@@ -47,8 +45,8 @@ fn print_lines<'w, O: Out>(
     alloc: Global,
     feed: &Feed,
     zone: &Zone,
-    words: &BoardWords<'w>,
-    values: &Values<'w>,
+    words: &BoardTexts<'w>,
+    values: &Request<'w>,
     out: &mut O,
 ) -> Result<(), Refusal<'w>>
     requires { AreValues (texts_of words.now) values.now }
@@ -71,10 +69,7 @@ pub(super) fn print_page<'w, O: Out>(
     limit: u64,
     out: &mut O,
 ) -> Result<(), Refusal<'w>>
-    ensures { (f : Content) (stop : List ℕ) (r : Request) → r.limit ≡ limit
-        → ListsBoard f board.old.zone stop r board.old.rest → PrintsText
-        (IsTextOf IsPage f board.old.zone stop r) (IsTextOf IsCutShort f board.old.zone stop r)
-        (IsTextOf IsStopped f board.old.zone stop r) (λ _. ⊥)
+    ensures { PrintsPage board.old.zone board.old.rest limit
         (⟦<O as OutSeen>⟧.seen out.old) (⟦<O as OutSeen>⟧.seen out.new) result }
 {
     match write_page(alloc, board, limit, out) {
@@ -89,8 +84,8 @@ fn open<'a, 'w>(
     alloc: Global,
     feed: &'a Feed,
     zone: &'a Zone,
-    words: &BoardWords<'w>,
-    values: &Values<'w>,
+    words: &BoardTexts<'w>,
+    values: &Request<'w>,
 ) -> Result<Board<'a>, Refusal<'w>>
     requires { AreValues (texts_of words.now) values.now }
     ensures board { IfOk result (λ board. ListsBoard (content_of_parts feed.now) zone.now

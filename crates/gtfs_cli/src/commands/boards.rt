@@ -17,12 +17,12 @@ use crate::commands::feed::read_feed;
 use crate::commands::files::read_file;
 use crate::commands::refusal::Refusal;
 use crate::commands::request_lines::{lines_of, text_of};
-use crate::commands::requests::{LineRequest, RequestTexts, first_fault, read_request};
+use crate::commands::requests::{RequestTexts, StopRequest, first_fault, read_request};
 use crate::commands::times::read_times;
 use crate::commands::zone_file::read_zone;
 use crate::seen::{DevicesSeen, OutSeen};
 use gtfs_board::{Board, Feed, Span, StopIndex, Times};
-use gtfs_commands::BoardsWords;
+use gtfs_commands::BoardsTexts;
 use gtfs_days::Zone;
 use gtfs_field::OutOfMemory;
 use gtfs_table::{Folders, Out, write_text};
@@ -37,7 +37,7 @@ use std::hash::RandomState;
 pub(super) fn print_boards<'w, F: Folders, O: Out>(
     alloc: Global,
     random: RandomState,
-    words: &BoardsWords<'w>,
+    words: &BoardsTexts<'w>,
     folders: &mut F,
     out: &mut O,
 ) -> Result<(), Refusal<'w>>
@@ -57,7 +57,7 @@ fn print_file<'w, O: Out>(
     feed: &Feed,
     zone: &Zone,
     bytes: &[u8],
-    words: &BoardsWords<'w>,
+    words: &BoardsTexts<'w>,
     out: &mut O,
 ) -> Result<(), Refusal<'w>>
     ensures { let f = content_of_parts feed.now in let asked = requests_of f
@@ -137,7 +137,7 @@ fn print_request<'w, O: Out>(
     alloc: Global,
     index: &StopIndex<'_>,
     zone: &Zone,
-    request: &LineRequest<'_>,
+    request: &StopRequest<'_>,
     out: &mut O,
 ) -> Result<(), Refusal<'w>>
     requires times { request.now.values.times ≡ index.now.times }
@@ -157,7 +157,7 @@ fn open<'a>(
     alloc: Global,
     index: &StopIndex<'a>,
     zone: &'a Zone,
-    request: &LineRequest<'_>,
+    request: &StopRequest<'_>,
 ) -> Result<Board<'a>, OutOfMemory>
     requires times { request.now.values.times ≡ index.now.times }
     requires from { IsSound request.now.values.from }
@@ -188,11 +188,11 @@ fn open<'a>(
 fn print_opened<'w, O: Out>(
     alloc: Global,
     board: &mut Board<'_>,
-    request: &LineRequest<'_>,
+    request: &StopRequest<'_>,
     out: &mut O,
 ) -> Result<(), Refusal<'w>>
     ensures { (f : Content) → let q = stop_request_of request.now in let z = board.old.zone in
-        ListsBoard f z q.texts.stop q.request board.old.rest
+        ListsBoard f z q.texts.stop q.values board.old.rest
         → PrintsText (IsOneText f z q) (BeginsBoard f z q) (BeginsWhole f z q) (λ _. ⊥)
         (⟦<O as OutSeen>⟧.seen out.old) (⟦<O as OutSeen>⟧.seen out.new) result }
 {

@@ -19,12 +19,12 @@ ghost use Rattle.gtfs_cli.specs.Reads.{CallsFolders, Reads};
 ghost use Rattle.gtfs_cli.specs.Refusals.{TellsFolders};
 
 use crate::commands::feed::read_draft;
-use crate::commands::merge_values::{MergeValues, read_merge_values};
+use crate::commands::merge_values::{MergeRequest, read_merge_values};
 use crate::commands::names::print_names;
 use crate::commands::refusal::Refusal;
 use crate::seen::{DevicesSeen, FoldersSeen};
 use gtfs_board::Feed;
-use gtfs_commands::MergeWords;
+use gtfs_commands::MergeTexts;
 use gtfs_field::OutOfMemory;
 use gtfs_merge::{MergeFault, Merged, Options, merge_owned};
 use gtfs_table::{File, FolderFault, Folders, Out};
@@ -41,7 +41,7 @@ use std::mem;
 pub(super) fn print_merge<'w, F: Folders, O: Out>(
     alloc: Global,
     random: RandomState,
-    words: &MergeWords<'w>,
+    words: &MergeTexts<'w>,
     folders: &mut F,
     out: &mut O,
 ) -> Result<(), Refusal<'w>>
@@ -63,8 +63,8 @@ pub(super) fn print_merge<'w, F: Folders, O: Out>(
 fn merge_folders<'w, F: Folders>(
     alloc: Global,
     random: RandomState,
-    words: &MergeWords<'w>,
-    values: &MergeValues,
+    words: &MergeTexts<'w>,
+    values: &MergeRequest,
     folders: &mut F,
     memory: &mut Vec<u8>,
 ) -> Result<Merged, Refusal<'w>>
@@ -95,7 +95,7 @@ fn merge_feeds<'w>(
     random: RandomState,
     a: Feed,
     b: Feed,
-    values: &MergeValues,
+    values: &MergeRequest,
 ) -> Result<Merged, Refusal<'w>>
     requires near { IfSome values.now.near (λ n. n ≤ 2_147_483_647) }
     requires cutoff { IfSome values.now.cutoff (λ d. is_service_day d ≡ true) }

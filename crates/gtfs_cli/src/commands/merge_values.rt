@@ -6,12 +6,12 @@ ghost use Rattle.gtfs_cli.specs.MergeParts.{merge_request_of};
 
 use crate::commands::moments::read_service_day;
 use crate::commands::refusal::Refusal;
-use gtfs_commands::MergeWords;
+use gtfs_commands::MergeTexts;
 use gtfs_field::{Day, read_count};
 
 // The values of the options of a merge.
 #[derive(Clone, Copy)]
-pub(super) struct MergeValues {
+pub(super) struct MergeRequest {
     // Up to how many millionths of a degree apart stops become one, if they do.
     pub(super) near: Option<u32>,
     // The service day from which the second feed counts, and the first one before it,
@@ -21,7 +21,7 @@ pub(super) struct MergeValues {
 
 // Reads the values in the order of the usage.
 // Errors: `BadValue` of the first that is bad.
-pub(super) fn read_merge_values<'w>(words: &MergeWords<'w>) -> Result<MergeValues, Refusal<'w>>
+pub(super) fn read_merge_values<'w>(words: &MergeTexts<'w>) -> Result<MergeRequest, Refusal<'w>>
     ensures read { IfOk result (λ values. IsMergeRequest (merge_texts_of words.now)
         (merge_request_of values)) }
     ensures refused { IfErr result (IsFirstBad (judged_merge (merge_texts_of words.now))) }
@@ -32,7 +32,7 @@ pub(super) fn read_merge_values<'w>(words: &MergeWords<'w>) -> Result<MergeValue
     let Some(cutoff) = read_cutoff(words.cutoff) else {
         return Err(Refusal::BadValue("--cutoff"));
     };
-    Ok(MergeValues { near, cutoff })
+    Ok(MergeRequest { near, cutoff })
 }
 
 // Reads the value of `--near`, a count. None where it is not.

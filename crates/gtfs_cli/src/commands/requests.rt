@@ -10,7 +10,7 @@ ghost use Rattle.gtfs_cli.specs.OptionValues.{instant_at};
 
 use crate::commands::moments::read_moment;
 use crate::commands::request_fault::RequestFault;
-use crate::commands::values::{Values, read_after, read_limit};
+use crate::commands::values::{Request, read_after, read_limit};
 use gtfs_board::{Feed, Times};
 use gtfs_days::Zone;
 use gtfs_field::OutOfMemory;
@@ -30,9 +30,9 @@ pub(super) struct RequestTexts<'w> {
 
 // A board that a line asks for.
 #[derive(Clone, Copy)]
-pub(super) struct LineRequest<'w> {
+pub(super) struct StopRequest<'w> {
     pub(super) texts: RequestTexts<'w>,
-    pub(super) values: Values<'w>,
+    pub(super) values: Request<'w>,
 }
 
 // What is the matter with the first line that is refused, if any is.
@@ -83,7 +83,7 @@ fn line_fault(
 }
 
 // Whether the board would end before it begins.
-fn lies_before(alloc: Global, zone: &Zone, values: &Values<'_>) -> Result<bool, OutOfMemory>
+fn lies_before(alloc: Global, zone: &Zone, values: &Request<'_>) -> Result<bool, OutOfMemory>
     requires from { IsSound values.now.from }
     requires until { IsSound values.now.until }
     ensures { IfOk result (λ before. before
@@ -97,7 +97,7 @@ fn lies_before(alloc: Global, zone: &Zone, values: &Values<'_>) -> Result<bool, 
 
 // What a line asks for.
 // None where it has too few or too many fields, or a bad value, so also where it is empty.
-pub(super) fn read_request<'w>(line: &'w str, times: Times) -> Option<LineRequest<'w>>
+pub(super) fn read_request<'w>(line: &'w str, times: Times) -> Option<StopRequest<'w>>
     ensures request { option_map stop_request_of result ≡ stop_request times line.now }
     ensures times { IfSome result (λ q. q.values.times ≡ times) }
     ensures from { IfSome result (λ q. IsSound q.values.from) }
@@ -109,11 +109,11 @@ pub(super) fn read_request<'w>(line: &'w str, times: Times) -> Option<LineReques
     let Some(values) = read_request_values(&texts, times) else {
         return None;
     };
-    Some(LineRequest { texts, values })
+    Some(StopRequest { texts, values })
 }
 
 // The values of the texts of a request. None where one is bad.
-fn read_request_values<'w>(texts: &RequestTexts<'w>, times: Times) -> Option<Values<'w>>
+fn read_request_values<'w>(texts: &RequestTexts<'w>, times: Times) -> Option<Request<'w>>
     ensures values { option_map request_of result ≡ request_from times (request_texts_of texts.now) }
     ensures times { IfSome result (λ v. v.times ≡ times) }
     ensures from { IfSome result (λ v. IsSound v.from) }
@@ -131,7 +131,7 @@ fn read_request_values<'w>(texts: &RequestTexts<'w>, times: Times) -> Option<Val
     let Some(after) = read_after(texts.after) else {
         return None;
     };
-    Some(Values {
+    Some(Request {
         from,
         until,
         limit,

@@ -12,10 +12,10 @@ ghost use Rattle.gtfs_cli.specs.Timetables.{timetable_plan, timetable_request_of
 use crate::commands::feed::read_feed;
 use crate::commands::refusal::Refusal;
 use crate::commands::send::send;
-use crate::commands::timetable_values::{TimetableValues, read_timetable_values};
+use crate::commands::timetable_values::{TimetableRequest, read_timetable_values};
 use crate::seen::{DevicesSeen, OutSeen};
 use gtfs_board::{Feed, Sheet, TableFault, push_sheet, timetable};
-use gtfs_commands::TimetableWords;
+use gtfs_commands::TimetableTexts;
 use gtfs_table::{Folders, Out};
 use std::alloc::Global;
 use std::hash::RandomState;
@@ -27,7 +27,7 @@ use std::hash::RandomState;
 pub(super) fn print_timetable<'w, F: Folders, O: Out>(
     alloc: Global,
     random: RandomState,
-    words: &TimetableWords<'w>,
+    words: &TimetableTexts<'w>,
     folders: &mut F,
     out: &mut O,
 ) -> Result<(), Refusal<'w>>
@@ -45,7 +45,7 @@ fn print_sheets<'w, O: Out>(
     alloc: Global,
     feed: &Feed,
     route: &str,
-    values: &TimetableValues,
+    values: &TimetableRequest,
     out: &mut O,
 ) -> Result<(), Refusal<'w>>
     ensures { let f = content_of_parts feed.now in let r = timetable_request_of values.now in PrintsText
@@ -62,7 +62,7 @@ fn sheets_of<'a, 'w>(
     alloc: Global,
     feed: &'a Feed,
     route: &str,
-    values: &TimetableValues,
+    values: &TimetableRequest,
 ) -> Result<Vec<Sheet<'a>>, Refusal<'w>>
     ensures known { OnOk result (is_route (content_of_parts feed.now) route.now ≡ true) }
     ensures sheets { IfOk result (λ found. map plain_sheet found.items

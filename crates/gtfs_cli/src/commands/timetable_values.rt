@@ -7,12 +7,12 @@ ghost use Rattle.gtfs_cli.specs.Timetables.{timetable_request_of};
 use crate::commands::refusal::Refusal;
 use crate::commands::times::read_times;
 use gtfs_board::Times;
-use gtfs_commands::TimetableWords;
+use gtfs_commands::TimetableTexts;
 use gtfs_field::{Day, read_date};
 
 // The values of the options of a timetable.
 #[derive(Clone, Copy)]
-pub(super) struct TimetableValues {
+pub(super) struct TimetableRequest {
     // The service date of the runs.
     pub(super) day: Day,
     // The direction of the trips, 0 or 1, if only one is wanted.
@@ -24,8 +24,8 @@ pub(super) struct TimetableValues {
 // Reads the values in the order of the usage.
 // Errors: `BadValue` of the first that is bad.
 pub(super) fn read_timetable_values<'w>(
-    words: &TimetableWords<'w>,
-) -> Result<TimetableValues, Refusal<'w>>
+    words: &TimetableTexts<'w>,
+) -> Result<TimetableRequest, Refusal<'w>>
     ensures read { IfOk result (λ values. IsTimetableRequest (timetable_texts_of words.now)
         (timetable_request_of values)) }
     ensures refused { IfErr result (IsFirstBad (judged_timetable (timetable_texts_of words.now))) }
@@ -36,7 +36,7 @@ pub(super) fn read_timetable_values<'w>(
     let Some(direction) = read_direction(words.direction) else {
         return Err(Refusal::BadValue("--direction"));
     };
-    Ok(TimetableValues {
+    Ok(TimetableRequest {
         day,
         direction,
         times: read_times(words.interpolate),

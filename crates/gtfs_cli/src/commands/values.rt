@@ -9,7 +9,7 @@ use crate::commands::moments::{Moment, read_moment};
 use crate::commands::refusal::Refusal;
 use crate::commands::times::read_times;
 use gtfs_board::{Key, Times, read_key};
-use gtfs_commands::BoardWords;
+use gtfs_commands::BoardTexts;
 use gtfs_field::read_count;
 
 // The most lines where no limit is given: more than any output takes.
@@ -17,7 +17,7 @@ const NO_LIMIT: u64 = u64::MAX;
 
 // The values of the options of a board.
 #[derive(Clone, Copy)]
-pub(super) struct Values<'w> {
+pub(super) struct Request<'w> {
     // When the board begins.
     pub(super) from: Moment,
     // When it ends.
@@ -32,7 +32,7 @@ pub(super) struct Values<'w> {
 
 // Reads the values in the order of the usage.
 // Errors: `BadValue` of the first that is bad.
-pub(super) fn read_values<'w>(words: &BoardWords<'w>) -> Result<Values<'w>, Refusal<'w>>
+pub(super) fn read_values<'w>(words: &BoardTexts<'w>) -> Result<Request<'w>, Refusal<'w>>
     ensures read { IfOk result (AreValues (texts_of words.now)) }
     ensures refused { IfErr result (IsFirstBad (judged_board (texts_of words.now))) }
 {
@@ -48,7 +48,7 @@ pub(super) fn read_values<'w>(words: &BoardWords<'w>) -> Result<Values<'w>, Refu
     let Some(after) = read_after(words.after) else {
         return Err(Refusal::BadValue("--after"));
     };
-    Ok(Values {
+    Ok(Request {
         from,
         until,
         limit,

@@ -23,4 +23,4 @@ returns g c = λ f lists.
     let q = stop_request_of c.args.request.now in
     let text = c.as_bytes.ensures.value ∙ c.in_ok-heading.ensures in
     below-heading f c.args.board.now.zone q _ _ _ _ text c.in_ok-write_text.ensures.whole c.in_ok-write_text.ensures.no_failure c.print_page.result
-    (c.print_page.ensures f q.texts.stop q.request refl lists)
+    (c.print_page.ensures f q.texts.stop q.values refl lists)
