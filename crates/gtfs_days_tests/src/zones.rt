@@ -109,14 +109,21 @@ const ORIGINS: &[(ZoneFile, Origins)] = &[
     ),
 ];
 
+// The instant at which the service day of this number begins. None where there is no such day.
+fn origin_of(alloc: Global, zone: &Zone, number: i32) -> Option<i64> {
+    if number < -25_567 || number > 2_932_531 {
+        return None;
+    }
+    let day = Day::from_number(number);
+    let origin = zone.origin(alloc, day).ok()?;
+    Some(origin)
+}
+
 // The zone begins these days at these instants.
 fn assert_origins(rt: &impl Abort, alloc: Global, zone: &Zone, origins: Origins) {
     for &(number, origin) in origins {
-        assert!(rt; number >= -25_567);
-        assert!(rt; number <= 2_932_531);
-        let day = Day::from_number(number);
-        let found = zone.origin(alloc, day);
-        assert_is_at(rt, found, Ok(origin), "origin of day", number);
+        let found = origin_of(alloc, zone, number);
+        assert_is_at(rt, found, Some(origin), "origin of day", number);
     }
 }
 

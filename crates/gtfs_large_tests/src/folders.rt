@@ -31,6 +31,9 @@ fn many_folders_are_put(rt: HostRuntime) -> Result<(), Fail> {
         assert_is(&rt, folders.names(rt.alloc(), dir)?.len(), 0, dir);
     }
     assert_that(&rt, folders.names(rt.alloc(), "70000").is_err(), "no more");
+    folders.put("f1", "stops.txt", b"stop_id\nS1\n")?;
+    let file = folders.read(rt.alloc(), "f1", "stops.txt")?;
+    assert_that(&rt, file.is_some(), "and one with a file");
     Ok(())
 }
 
