@@ -24,7 +24,7 @@ pub(super) const CHECK: [&str; 3] = ["gtfs", "check", "f1"];
 pub(super) const MERGE: [&str; 5] = ["gtfs", "merge", "f1", "f2", "out"];
 
 // What the program answers to `--version`.
-pub(super) const VERSION: &str = "gtfs 1.0.0\n";
+pub(super) const VERSION: &str = "gtfs 1.1.0\n";
 
 // What is told of an output that failed.
 pub(super) const OUTPUT_FAILED: &str = "gtfs: output failed\n";
