@@ -21,8 +21,9 @@ fn line_after(
     Ok(text)
 }
 
-fn departure_at(instant: i64) -> Departure<'static> {
-    Departure {
+// The line of a departure at an instant.
+fn line_at(alloc: Global, zone: &Zone, instant: i64) -> Result<String, Fail> {
+    let departure = Departure {
         key: Key {
             instant,
             trip: "T1",
@@ -35,7 +36,8 @@ fn departure_at(instant: i64) -> Departure<'static> {
         route: "10",
         headsign: "",
         mark: Mark::Scheduled,
-    }
+    };
+    line_after(alloc, "", zone, &departure)
 }
 
 // How far each zone is ahead; and in UTC the first and the last instant that a clock shows,
@@ -74,7 +76,7 @@ fn a_line_has_the_clock_of_its_zone(rt: HostRuntime) -> Result<(), Fail> {
         let wanted = format!(in rt.alloc();
             "@{instant}/T1/28800/1/20240401\t{clock}\tS1\t10\t\ts\n"
         )?;
-        let text = line_after(rt.alloc(), "", &zone, &departure_at(instant));
+        let text = line_at(rt.alloc(), &zone, instant);
         assert_text(&rt, text, wanted.as_str(), clock)?;
     }
     Ok(())
