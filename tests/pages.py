@@ -11,7 +11,7 @@ KINDS = ["console", "sh", "text", "python", "rust"]
 FENCE = re.compile(r"( *)(```+)(.*)")
 
 # Folders whose files are named in the pages by paths from the root.
-FOLDERS = ["tests", "tools", "dist", "docs", "crates", "bench", "examples", ".ci"]
+FOLDERS = ["tests", "tools", "dist", "docs", "crates", "bench", "examples", "python", ".ci"]
 PLACE = re.compile("(?:%s)/.*" % "|".join(map(re.escape, FOLDERS)))
 
 

@@ -6,6 +6,7 @@ _gtfs_expect() {
         check) folders=1 ;;
         board) folders=1 options+=([--zone]=FILE [--stop]=ID [--from]=T [--until]=T [--limit]=N [--after]=KEY [--interpolate]='') ;;
         boards) folders=1 options+=([--zone]=FILE [--requests]=FILE [--interpolate]='') ;;
+        serve) folders=1 options+=([--zone]=FILE [--interpolate]='') ;;
         timetable) folders=1 options+=([--route]=ID [--date]=D [--direction]='0|1' [--interpolate]='') ;;
         merge) folders=3 options+=([--near]=N [--cutoff]=D) ;;
         *) return 1 ;;
@@ -63,7 +64,7 @@ _gtfs() {
     elif [[ -n $value ]]; then
         [[ $value != *'|'* ]] || _gtfs_words "$2" "${value//|/ }"
     elif ((${#words[@]} == 2)) && [[ $word != -* ]]; then
-        _gtfs_words "$2" check board boards timetable merge
+        _gtfs_words "$2" check board boards serve timetable merge
     elif ((folders > 0)) && [[ $word != -* ]]; then
         _gtfs_paths -d "$2"
     else

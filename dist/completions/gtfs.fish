@@ -60,6 +60,13 @@ complete -c gtfs -n '__gtfs_takes boards interpolate' -l interpolate \
     -d 'Fill in missing times, at an even pace between the given ones'
 complete -c gtfs -n '__gtfs_wants_folder boards 1' -a '(__fish_complete_directories)'
 
+complete -c gtfs -n __gtfs_begins -a serve -d 'Answer requests from the standard input, line by line'
+complete -c gtfs -n '__gtfs_takes serve help' -s h -l help -d 'Print help'
+complete -c gtfs -n '__gtfs_takes serve zone' -l zone -r -F -d 'The zone file (TZif) of the time zone'
+complete -c gtfs -n '__gtfs_takes serve interpolate' -l interpolate \
+    -d 'Fill in missing times, at an even pace between the given ones'
+complete -c gtfs -n '__gtfs_wants_folder serve 1' -a '(__fish_complete_directories)'
+
 complete -c gtfs -n __gtfs_begins -a timetable \
     -d 'Print the runs of a route on a date, a sheet for each direction and list of stops'
 complete -c gtfs -n '__gtfs_takes timetable help' -s h -l help -d 'Print help'

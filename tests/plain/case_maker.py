@@ -6,12 +6,14 @@ from dataclasses import replace
 from random import Random
 
 from aims import aim
+from asked_values import moment_of
 from boards import Key, departures
-from commands import Ended, feed, moment_of, zone_of
+from commands import Ended, feed, zone_of
 from feed_maker import BASES, file_bytes, make_feed
 from filling import interpolated
 from hostile import change_case
 from oddities import DIFFERENCES, MOVES, ODDITIES, change
+from serving import LONGEST
 from values import FIRST_SERVICE_DAY, LAST_SERVICE_DAY, Form, Range, date_text, read_date
 from words import COMMANDS
 from zone_maker import make_zone, no_zone
@@ -121,7 +123,7 @@ def one_of(random, ids, unknown):
     return random.choice(ids) if ids and random.random() < 0.93 else unknown
 
 
-# ---- files of requests
+# ---- requests
 
 
 def fields_of_request(random, made, zone):
@@ -147,21 +149,67 @@ def spoiled(random, fields):
     ])
 
 
-def make_requests(random, made, zone):
-    """The bytes of a file of requests, with lines that are empty, ended in one or the other way, or come again."""
-    lines = [fields_of_request(random, made, zone) for _ in range(random.choice([0, 1, 2, 2, 3, 4, 6]))]
+def make_lines(random, asked, spoils):
+    """The fields of some lines, each as `asked` makes them, of which one may come again, and some are spoiled."""
+    lines = [asked() for _ in range(random.choice([0, 1, 2, 2, 3, 4, 6]))]
     lines += random.choices(lines, k=1) if lines and random.random() < 0.3 else []
-    for _ in range(random.choice([0, 0, 0, 0, 0, 0, 1, 1, 2])):
+    for _ in range(random.choice(spoils)):
         if lines:
             at = random.randrange(len(lines))
             lines[at] = spoiled(random, lines[at])
-    texts = ["\t".join(fields) for fields in lines]
+    return lines
+
+
+def text_of_lines(random, texts):
+    """The text of lines that are ended in one or the other way, with some that are empty."""
     for _ in range(random.choice([0, 0, 1, 3])):
         texts.insert(random.randint(0, len(texts)), "")
     ends = random.choice([["\n"], ["\r\n"], ["\n", "\r\n"], ["\n"] * 9 + ["\r", "\r\r\n"]])
     text = "".join(line + random.choice(ends) for line in texts)
-    text = text.removesuffix("\n") if random.random() < 0.3 else text
+    return text.removesuffix("\n") if random.random() < 0.3 else text
+
+
+def make_requests(random, made, zone):
+    """The bytes of a file of requests."""
+    lines = make_lines(random, lambda: fields_of_request(random, made, zone), [0, 0, 0, 0, 0, 0, 1, 1, 2])
+    text = text_of_lines(random, ["\t".join(fields) for fields in lines])
     return ("\ufeff" * random.choice([0, 0, 0, 1, 2]) + text).encode("utf-8", "surrogateescape")
+
+
+def fields_of_timetable(random, made):
+    """The fields of a line that asks for a timetable, of which nearly all are good."""
+    route, date = route_in(random, made), date_of_runs(random, made)
+    return [route, date, *([random.choice(["", "0", "1"])] if random.random() < 0.5 else [])]
+
+
+def long_line(random):
+    """A line of as many bytes as one may have, or of one more: an empty board, if it is answered."""
+    begun = "board\tS1\t@0\t@0\t"
+    return begun + "0" * (LONGEST + random.choice([0, 1]) - len(begun))
+
+
+def with_odd_bytes(random, held):
+    """The bytes with some between them that are no text, or that are not cut from the beginning of the input."""
+    odd = random.choice([b"\0", b"\x80", b"\xff", b"\xed\xa0\x80", b"\xef\xbb\xbf"])
+    at = random.choice([0, random.randint(0, len(held))])
+    return held[:at] + odd + held[at:]
+
+
+def make_input(random, made, zone):
+    """The bytes of an input with requests for boards and timetables."""
+    boards = make_lines(random, lambda: fields_of_request(random, made, zone), [0, 0, 1, 1, 2])
+    timetables = make_lines(random, lambda: fields_of_timetable(random, made), [0, 0, 0, 1])
+    lines = [["board", *fields] for fields in boards] + [["timetable", *fields] for fields in timetables]
+    random.shuffle(lines)
+    if lines and random.random() < 0.3:
+        lines[0] = spoiled(random, lines[0])
+    elif lines and random.random() < 0.15:
+        lines[-1][0] = random.choice(["Board", "boards", "check", "board ", "board" if lines[-1][0] == "timetable" else "timetable"])
+    texts = ["\t".join(fields) for fields in lines]
+    if random.random() < 0.05:
+        texts.insert(random.randint(0, len(texts)), long_line(random))
+    held = text_of_lines(random, texts).encode("utf-8", "surrogateescape")
+    return with_odd_bytes(random, held) if random.random() < 0.15 else held
 
 
 # ---- the texts of each command
@@ -221,14 +269,34 @@ def given_boards(random):
     return given
 
 
-def given_timetable(random):
+def given_serve(random):
     made = put_feed(random, "f", random.choice([0, 0, 0, 0, 0, 1, 2]))
-    put(".", {"z": b"no folder"})
+    zone = put_zones(random, made)
+    put(".", {"input": make_input(random, made, zone)})
+    given = {"DIR": folder_word(random), "zone": zone}
+    if random.random() < 0.5:
+        given["interpolate"] = ""
+    return given
+
+
+def date_of_runs(random, made):
+    """A date that services name, or at times another one, or something else."""
     dates = made.ids("calendar.txt", "start_date") * 2 + made.ids("calendar_dates.txt", "date") + [date_text(made.base)]
     date = random.choice(dates)
     if random.random() < 0.1:
         date = random.choice(["", "@5", "99991231", "19000101", "18991231", "20240230", "2024-04-01", "20230229"])
-    route = one_of(random, made.ids("trips.txt", "route_id"), "R99")
+    return date
+
+
+def route_in(random, made):
+    """A route of a trip, or at times another one."""
+    return one_of(random, made.ids("trips.txt", "route_id"), "R99")
+
+
+def given_timetable(random):
+    made = put_feed(random, "f", random.choice([0, 0, 0, 0, 0, 1, 2]))
+    put(".", {"z": b"no folder"})
+    date, route = date_of_runs(random, made), route_in(random, made)
     given = {"DIR": folder_word(random), "route": route, "date": date}
     if random.random() < 0.4:
         given["direction"] = random.choice("01" if random.random() < 0.8 else ["2", "00", "", "+1", "01"])
@@ -280,7 +348,7 @@ def cutoff(random, made):
     return date_text(min(max(date, FIRST_SERVICE_DAY), LAST_SERVICE_DAY))
 
 
-GIVEN = {"board": given_board, "boards": given_boards, "timetable": given_timetable, "merge": given_merge}
+GIVEN = {"board": given_board, "boards": given_boards, "serve": given_serve, "timetable": given_timetable, "merge": given_merge}
 
 
 # ---- words

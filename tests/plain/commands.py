@@ -1,17 +1,19 @@
 """What the program gives for its words: the output, the line on the error output, the status and the files written."""
+import io
 import os
-import re
 from dataclasses import dataclass, field
 
 import boards
 import merging
+import serving
 import timetables
+from asked_values import direction_of, key_of, moment_of, service_day_of
 from content import content_of
 from filling import interpolated
 from problems import passes, problems, report
-from requested import numbered_lines, request_of, text_of
+from requested import Unanswered, board_asked, instant_in, numbered_lines, text_of
 from tables import NotThere, Unreadable, read_tables
-from values import FIRST_SERVICE_DAY, LAST_SERVICE_DAY, Form, Range, plain, read_count, read_date, shaped
+from values import Form, Range, plain, read_count, read_date
 from words import Help, NotUtf8, Refused, Version, read_words
 from zones import NoZone, Odd, read_zone
 
@@ -50,56 +52,6 @@ class Ended(Exception):
         super().__init__(line)
         told = f"{path} {line}" if name else line
         self.outcome = Outcome(status, err=f"gtfs: {plain(told)}\n", cause=f"{name} {line}" if name else line)
-
-
-# ---- the values of options
-
-
-def instant_of(text):
-    """Seconds since 1970-01-01T00:00:00Z, as a key has them."""
-    found = shaped("-?(0|[1-9][0-9]*)", text)[0]
-    if found == "-0":
-        raise Form
-    if len(found.lstrip("-")) > 12:
-        raise Range
-    return int(found)
-
-
-def number_of(text, greatest):
-    """A number of a key, without leading zeros."""
-    digits = shaped("0|[1-9][0-9]*", text)[0]
-    number = int(digits) if len(digits) <= 10 else greatest + 1
-    if number > greatest:
-        raise Range
-    return number
-
-
-def service_day_of(text):
-    date = read_date(text)
-    if not FIRST_SERVICE_DAY <= date <= LAST_SERVICE_DAY:
-        raise Range
-    return date
-
-
-def moment_of(text):
-    """An instant as a number, or a service day."""
-    return instant_of(text[1:]) if text.startswith("@") else service_day_of(text)
-
-
-def key_of(text):
-    """The key of a departure. Its trip id may hold slashes."""
-    found = re.fullmatch("@([^/]*)/(.*)/([^/]*)/([^/]*)/([^/]*)", text, re.DOTALL)
-    if not found:
-        raise Form
-    instant, trip, run, sequence, date = found.groups()
-    start, place = number_of(run, 3_599_999), number_of(sequence, 2_147_483_647)
-    return boards.Key(instant_of(instant), trip, start, place, read_date(date))
-
-
-def direction_of(text):
-    if text not in ("0", "1"):
-        raise Form
-    return int(text)
 
 
 def value(given, name, reader):
@@ -197,38 +149,17 @@ def board(given):
     return Outcome(0, boards.board(content, zone, given["stop"], begin, end, limit, after))
 
 
-def instant_in(zone, moment):
-    return moment if isinstance(moment, int) else zone.origin(moment)
-
-
-def board_asked(content, zone, number, request):
-    """What `boards.board` is handed for a request, whose line has this number."""
-    try:
-        begin, end = moment_of(request.begin), moment_of(request.end)
-        limit = None if request.limit is None else read_count(request.limit)
-        after = None if request.after is None else key_of(request.after)
-    except (Form, Range):
-        raise Ended(2, f"bad request in line {number}") from None
-    if request.stop not in content.stops:
-        raise Ended(1, f"unknown stop in line {number}")
-    begin, end = instant_in(zone, begin), instant_in(zone, end)
-    if end < begin:
-        raise Ended(2, f"until lies before from in line {number}")
-    return request.stop, begin, end, limit, after
-
-
 def many_boards(given):
     content = timed_feed(given)
     zone = zone_of(given["zone"])
-    requests, wanted = [], []
+    wanted = []
     for number, line in lines_of_requests(given["requests"]):
         try:
-            requests.append(request_of(line))
-        except Form:
-            raise Ended(2, f"bad request in line {number}") from None
-        wanted.append(board_asked(content, zone, number, requests[-1]))
-    texts = [request.heading() + boards.board(content, zone, *board) for request, board in zip(requests, wanted)]
-    return Outcome(0, "".join(texts), requests=requests)
+            wanted.append(board_asked(content, zone, line.split("\t")))
+        except Unanswered as fault:
+            raise Ended(fault.status, f"{fault.why} in line {number}") from None
+    texts = [request.heading() + boards.board(content, zone, *asked) for request, asked in wanted]
+    return Outcome(0, "".join(texts), requests=[request for request, _ in wanted])
 
 
 def timetable(given):
@@ -253,14 +184,46 @@ def merge(given):
     return Outcome(0, merging.report(names), written=written, merged=(a, b, names, cutoff))
 
 
+def heard(input):
+    """The lines of the standard input, none where it is closed."""
+    try:
+        if input is None:
+            raise OSError
+        yield from serving.lines_of(input)
+    except OSError:
+        raise Ended(3, "input cannot be read") from None
+
+
+def tell(output, text):
+    """Writes an answer to an output without a buffer, which may take a part a call."""
+    held = text.encode()
+    try:
+        while held:
+            taken = output.write(held)
+            if not taken:
+                raise OSError
+            held = held[taken:]
+    except OSError:
+        raise Ended(3, "output failed") from None
+
+
+def serve(given, input, output):
+    """Tells the answer to each line of the input before it reads the next one."""
+    content = timed_feed(given)
+    zone = zone_of(given["zone"])
+    for line in heard(input):
+        tell(output, serving.answer(content, zone, line))
+    return Outcome(0)
+
+
 RUNS = {"check": check, "board": board, "boards": many_boards, "timetable": timetable, "merge": merge}
 
 
-def outcome(words):
-    """What the program gives for the words behind its name, in the folder where this runs. It changes nothing there."""
+def ending(words, input, output):
+    """How the program ends with these words behind its name. Answers to lines of the input go to the output, all else is handed back."""
     try:
         command, given = read_words(words)
-        return RUNS[command](given)
+        return serve(given, input, output) if command == "serve" else RUNS[command](given)
     except Help:
         return Outcome(0, out=SOME, cause="help")
     except Version:
@@ -273,3 +236,12 @@ def outcome(words):
         return UNKNOWN
     except Ended as ended:
         return ended.outcome
+
+
+def outcome(words, held=b""):
+    """What the program gives for the words and the bytes of its input, in the folder where this runs. It changes nothing there."""
+    output = io.BytesIO()
+    ended = ending(words, io.BytesIO(held), output)
+    if output.getvalue():
+        ended.out = output.getvalue().decode()
+    return ended

@@ -96,8 +96,8 @@ def change_zone(random):
     change_file(random, os.path.join("zones", "z"), [hostile])
 
 
-def change_requests(random):
-    change_file(random, "requests", [hostile, hostile, lines_swapped])
+def change_requests(random, name):
+    change_file(random, name, [hostile, hostile, lines_swapped])
 
 
 def change_words(random, words):
@@ -124,9 +124,10 @@ def change_case(random, words):
     form = random.random()
     if form < 0.2:
         return change_words(random, words)
-    if os.path.exists("requests") and random.random() < 0.6:
-        change_requests(random)
-        return words
+    for name in ("requests", "input"):
+        if os.path.exists(name) and random.random() < 0.6:
+            change_requests(random, name)
+            return words
     if form < 0.5 and os.path.exists(os.path.join("zones", "z")):
         change_zone(random)
     else:

@@ -1,8 +1,18 @@
-"""Files of requests: a board is asked for on each line that is not empty."""
+"""Requests: lines that ask for a board each, and files of them."""
 from dataclasses import dataclass
 
+from asked_values import key_of, moment_of
 from tables import MARK
-from values import Form
+from values import Form, Range, read_count
+
+
+class Unanswered(Exception):
+    """A request without an answer: what is told of it, and the status of a run that ends with it."""
+
+    def __init__(self, status, why):
+        super().__init__(why)
+        self.status = status
+        self.why = why
 
 
 @dataclass
@@ -39,9 +49,29 @@ def numbered_lines(text):
     return [(number, line) for number, line in enumerate(lines, 1) if line]
 
 
-def request_of(line):
-    """The request of a line."""
-    fields = line.split("\t")
+def request_of(fields):
+    """The request of a line with these fields."""
     if not 3 <= len(fields) <= 5:
         raise Form
     return Request(*fields[:3], *(text or None for text in fields[3:]))
+
+
+def board_asked(content, zone, fields):
+    """The request of a line with these fields, and what `boards.board` is handed for it."""
+    try:
+        request = request_of(fields)
+        begin, end = moment_of(request.begin), moment_of(request.end)
+        limit = None if request.limit is None else read_count(request.limit)
+        after = None if request.after is None else key_of(request.after)
+    except (Form, Range):
+        raise Unanswered(2, "bad request") from None
+    if request.stop not in content.stops:
+        raise Unanswered(1, "unknown stop")
+    begin, end = instant_in(zone, begin), instant_in(zone, end)
+    if end < begin:
+        raise Unanswered(2, "until lies before from")
+    return request, (request.stop, begin, end, limit, after)
+
+
+def instant_in(zone, moment):
+    return moment if isinstance(moment, int) else zone.origin(moment)

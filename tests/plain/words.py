@@ -5,6 +5,7 @@ COMMANDS = {
     "check": (["DIR"], [], [], []),
     "board": (["DIR"], ["zone", "stop", "from", "until"], ["limit", "after"], ["interpolate"]),
     "boards": (["DIR"], ["zone", "requests"], [], ["interpolate"]),
+    "serve": (["DIR"], ["zone"], [], ["interpolate"]),
     "timetable": (["DIR"], ["route", "date"], ["direction"], ["interpolate"]),
     "merge": (["A", "B", "OUT"], [], ["near", "cutoff"], []),
 }

@@ -2,16 +2,17 @@
 use Rattle.std.proofs.Common.{◌≡◌, ◌∙◌, ap, refl, sym, subst, true, false, true≢false, Bool, bytes_eq, inl, inr, List, Option, Some, None, codes, Result}
 use Rattle.std.specs.Prelude.{⊤, IsSome}
 use Rattle.clap.specs.Words.{Row, Text, first_of, subcommand_of, takes}
-use Rattle.gtfs_commands.specs.Asked.{is_flagged, ForBoard, ForBoards, ForCheck, ForMerge, ForTimetable, HasBoard, HasBoards, HasMerge, HasTimetable, GivesBoard, GivesBoards, GivesMerge, GivesTimetable, IsWhole}
-use Rattle.gtfs_commands.specs.Words.{gtfs_app, boards_texts_of, merge_texts_of, texts_of, timetable_texts_of, BoardTexts, BoardsTexts, IsCommandOf, MergeTexts, TimetableTexts}
+use Rattle.gtfs_commands.specs.Asked.{is_flagged, ForBoard, ForBoards, ForCheck, ForMerge, ForServe, ForTimetable, HasBoard, HasBoards, HasMerge, HasServe, HasTimetable, GivesBoard, GivesBoards, GivesMerge, GivesServe, GivesTimetable, IsWhole}
+use Rattle.gtfs_commands.specs.Words.{gtfs_app, boards_texts_of, merge_texts_of, serve_texts_of, texts_of, timetable_texts_of, BoardTexts, BoardsTexts, IsCommandOf, MergeTexts, ServeTexts, TimetableTexts}
 use Rattle.gtfs_commands.specs.declared.command.Command.{Command}
 use Rattle.gtfs_commands.specs.declared.command.Command.TheVariants as commands
+use Rattle.gtfs_commands.specs.declared.command.ServeTexts.{ServeTexts as LentServeTexts}
 use Rattle.gtfs_commands.proofs.GtfsWords.{whole}
-use Rattle.gtfs_commands.proofs.OneAsked.{same_board, same_boards, same_check, same_merge, same_timetable}
+use Rattle.gtfs_commands.proofs.OneAsked.{same_board, same_boards, same_check, same_merge, same_serve, same_timetable}
 use Rattle.gtfs_cli.specs.Plan.{Ends, Plan}
 use Rattle.gtfs_cli.specs.Seen.{Devices}
 use Rattle.gtfs_cli.specs.declared.commands.refusal.Refusal.{Refusal}
-use Rattle.gtfs_cli.specs.Asked.{Asked, Asks, Board, Boards, Check, Merge, Timetable, Untaken}
+use Rattle.gtfs_cli.specs.Asked.{Asked, Asks, HearsNothing, Board, Boards, Check, Merge, Serve, Timetable, Untaken}
 
 -- ---- they ask for something
 
@@ -48,6 +49,14 @@ boards_of given has =
       record { dir = dir.1; zone = zone.1; requests = requests.1; interpolate = refl },
     )
 
+serve_of : (given : List Row) → HasServe given → (asked : ServeTexts) × GivesServe given asked
+serve_of given has =
+    let dir = value_of (first_of (codes "DIR") given) has.dir in
+    let zone = value_of (first_of (codes "zone") given) has.zone in (
+      record { dir = dir.0; zone = zone.0; interpolate = is_flagged (codes "interpolate") given },
+      record { dir = dir.1; zone = zone.1; interpolate = refl },
+    )
+
 timetable_of : (given : List Row) → HasTimetable given → (asked : TimetableTexts) × GivesTimetable given asked
 timetable_of given has =
     let dir = value_of (first_of (codes "DIR") given) has.dir in
@@ -77,6 +86,7 @@ abbrev ForOne : Option (Text × List Row) → Asked → Type 0
 ForOne found (Check dir) = ForCheck found dir
 ForOne found (Board texts) = ForBoard found texts
 ForOne found (Boards texts) = ForBoards found texts
+ForOne found (Serve texts) = ForServe found texts
 ForOne found (Timetable texts) = ForTimetable found texts
 ForOne found (Merge texts) = ForMerge found texts
 ForOne found Untaken = ⊥
@@ -86,14 +96,16 @@ for-one None none = absurd none
 for-one (Some found) (inl (named, has)) = let dir = value_of (first_of (codes "DIR") found.1) has in (Check dir.0, (named, dir.1))
 for-one (Some found) (inr (inl (named, has))) = let texts = board_of found.1 has in (Board texts.0, (named, texts.1))
 for-one (Some found) (inr (inr (inl (named, has)))) = let texts = boards_of found.1 has in (Boards texts.0, (named, texts.1))
-for-one (Some found) (inr (inr (inr (inl (named, has))))) = let texts = timetable_of found.1 has in (Timetable texts.0, (named, texts.1))
-for-one (Some found) (inr (inr (inr (inr (named, has))))) = let texts = merge_of found.1 has in (Merge texts.0, (named, texts.1))
+for-one (Some found) (inr (inr (inr (inl (named, has))))) = let texts = serve_of found.1 has in (Serve texts.0, (named, texts.1))
+for-one (Some found) (inr (inr (inr (inr (inl (named, has)))))) = let texts = timetable_of found.1 has in (Timetable texts.0, (named, texts.1))
+for-one (Some found) (inr (inr (inr (inr (inr (named, has)))))) = let texts = merge_of found.1 has in (Merge texts.0, (named, texts.1))
 
 -- what is asked for where `clap` takes the words
 asks-by : (words : List Text) → takes gtfs_app words ≡ true → (asked : Asked) → ForOne (subcommand_of gtfs_app words) asked → Asks words asked
 asks-by words taken (Check dir) is = record { taken = taken; asks = is }
 asks-by words taken (Board texts) is = record { taken = taken; asks = is }
 asks-by words taken (Boards texts) is = record { taken = taken; asks = is }
+asks-by words taken (Serve texts) is = record { taken = taken; asks = is }
 asks-by words taken (Timetable texts) is = record { taken = taken; asks = is }
 asks-by words taken (Merge texts) is = record { taken = taken; asks = is }
 asks-by words taken Untaken is = absurd is
@@ -115,6 +127,7 @@ abbrev name_of : Asked → Text
 name_of (Check dir) = codes "check"
 name_of (Board texts) = codes "board"
 name_of (Boards texts) = codes "boards"
+name_of (Serve texts) = codes "serve"
 name_of (Timetable texts) = codes "timetable"
 name_of (Merge texts) = codes "merge"
 name_of Untaken = codes ""
@@ -123,6 +136,7 @@ taken-by : (words : List Text) (x : Asked) → IsTaken x → Asks words x → ta
 taken-by words (Check x) has asks = asks.taken
 taken-by words (Board x) has asks = asks.taken
 taken-by words (Boards x) has asks = asks.taken
+taken-by words (Serve x) has asks = asks.taken
 taken-by words (Timetable x) has asks = asks.taken
 taken-by words (Merge x) has asks = asks.taken
 taken-by words Untaken none asks = absurd none
@@ -143,6 +157,10 @@ boards-named : (found : Option (Text × List Row)) (texts : BoardsTexts) → For
 boards-named None texts asks = absurd asks
 boards-named (Some found) texts asks = asks.0
 
+serve-named : (found : Option (Text × List Row)) (texts : ServeTexts) → ForServe found texts → IsNamed found (codes "serve")
+serve-named None texts asks = absurd asks
+serve-named (Some found) texts asks = asks.0
+
 timetable-named : (found : Option (Text × List Row)) (texts : TimetableTexts) → ForTimetable found texts → IsNamed found (codes "timetable")
 timetable-named None texts asks = absurd asks
 timetable-named (Some found) texts asks = asks.0
@@ -155,6 +173,7 @@ named : (words : List Text) (x : Asked) → IsTaken x → Asks words x → IsNam
 named words (Check x) has asks = check-named (subcommand_of gtfs_app words) x asks.asks
 named words (Board x) has asks = board-named (subcommand_of gtfs_app words) x asks.asks
 named words (Boards x) has asks = boards-named (subcommand_of gtfs_app words) x asks.asks
+named words (Serve x) has asks = serve-named (subcommand_of gtfs_app words) x asks.asks
 named words (Timetable x) has asks = timetable-named (subcommand_of gtfs_app words) x asks.asks
 named words (Merge x) has asks = merge-named (subcommand_of gtfs_app words) x asks.asks
 named words Untaken none asks = absurd none
@@ -177,36 +196,49 @@ pub one-asked : (words : List Text) (x y : Asked) → Asks words x → Asks word
 one-asked words (Check x) (Check y) a b = ap (λ t. Check t) (same_check (subcommand_of gtfs_app words) x y a.asks b.asks)
 one-asked words (Check x) (Board y) a b = absurd (clash words (Check x) (Board y) tt tt refl refl a b)
 one-asked words (Check x) (Boards y) a b = absurd (clash words (Check x) (Boards y) tt tt refl refl a b)
+one-asked words (Check x) (Serve y) a b = absurd (clash words (Check x) (Serve y) tt tt refl refl a b)
 one-asked words (Check x) (Timetable y) a b = absurd (clash words (Check x) (Timetable y) tt tt refl refl a b)
 one-asked words (Check x) (Merge y) a b = absurd (clash words (Check x) (Merge y) tt tt refl refl a b)
 one-asked words (Check x) Untaken a b = absurd (untaken words (Check x) tt a b)
 one-asked words (Board x) (Check y) a b = absurd (clash words (Board x) (Check y) tt tt refl refl a b)
 one-asked words (Board x) (Board y) a b = ap (λ t. Board t) (same_board (subcommand_of gtfs_app words) x y a.asks b.asks)
 one-asked words (Board x) (Boards y) a b = absurd (clash words (Board x) (Boards y) tt tt refl refl a b)
+one-asked words (Board x) (Serve y) a b = absurd (clash words (Board x) (Serve y) tt tt refl refl a b)
 one-asked words (Board x) (Timetable y) a b = absurd (clash words (Board x) (Timetable y) tt tt refl refl a b)
 one-asked words (Board x) (Merge y) a b = absurd (clash words (Board x) (Merge y) tt tt refl refl a b)
 one-asked words (Board x) Untaken a b = absurd (untaken words (Board x) tt a b)
 one-asked words (Boards x) (Check y) a b = absurd (clash words (Boards x) (Check y) tt tt refl refl a b)
 one-asked words (Boards x) (Board y) a b = absurd (clash words (Boards x) (Board y) tt tt refl refl a b)
 one-asked words (Boards x) (Boards y) a b = ap (λ t. Boards t) (same_boards (subcommand_of gtfs_app words) x y a.asks b.asks)
+one-asked words (Boards x) (Serve y) a b = absurd (clash words (Boards x) (Serve y) tt tt refl refl a b)
 one-asked words (Boards x) (Timetable y) a b = absurd (clash words (Boards x) (Timetable y) tt tt refl refl a b)
 one-asked words (Boards x) (Merge y) a b = absurd (clash words (Boards x) (Merge y) tt tt refl refl a b)
 one-asked words (Boards x) Untaken a b = absurd (untaken words (Boards x) tt a b)
+one-asked words (Serve x) (Check y) a b = absurd (clash words (Serve x) (Check y) tt tt refl refl a b)
+one-asked words (Serve x) (Board y) a b = absurd (clash words (Serve x) (Board y) tt tt refl refl a b)
+one-asked words (Serve x) (Boards y) a b = absurd (clash words (Serve x) (Boards y) tt tt refl refl a b)
+one-asked words (Serve x) (Serve y) a b = ap (λ t. Serve t) (same_serve (subcommand_of gtfs_app words) x y a.asks b.asks)
+one-asked words (Serve x) (Timetable y) a b = absurd (clash words (Serve x) (Timetable y) tt tt refl refl a b)
+one-asked words (Serve x) (Merge y) a b = absurd (clash words (Serve x) (Merge y) tt tt refl refl a b)
+one-asked words (Serve x) Untaken a b = absurd (untaken words (Serve x) tt a b)
 one-asked words (Timetable x) (Check y) a b = absurd (clash words (Timetable x) (Check y) tt tt refl refl a b)
 one-asked words (Timetable x) (Board y) a b = absurd (clash words (Timetable x) (Board y) tt tt refl refl a b)
 one-asked words (Timetable x) (Boards y) a b = absurd (clash words (Timetable x) (Boards y) tt tt refl refl a b)
+one-asked words (Timetable x) (Serve y) a b = absurd (clash words (Timetable x) (Serve y) tt tt refl refl a b)
 one-asked words (Timetable x) (Timetable y) a b = ap (λ t. Timetable t) (same_timetable (subcommand_of gtfs_app words) x y a.asks b.asks)
 one-asked words (Timetable x) (Merge y) a b = absurd (clash words (Timetable x) (Merge y) tt tt refl refl a b)
 one-asked words (Timetable x) Untaken a b = absurd (untaken words (Timetable x) tt a b)
 one-asked words (Merge x) (Check y) a b = absurd (clash words (Merge x) (Check y) tt tt refl refl a b)
 one-asked words (Merge x) (Board y) a b = absurd (clash words (Merge x) (Board y) tt tt refl refl a b)
 one-asked words (Merge x) (Boards y) a b = absurd (clash words (Merge x) (Boards y) tt tt refl refl a b)
+one-asked words (Merge x) (Serve y) a b = absurd (clash words (Merge x) (Serve y) tt tt refl refl a b)
 one-asked words (Merge x) (Timetable y) a b = absurd (clash words (Merge x) (Timetable y) tt tt refl refl a b)
 one-asked words (Merge x) (Merge y) a b = ap (λ t. Merge t) (same_merge (subcommand_of gtfs_app words) x y a.asks b.asks)
 one-asked words (Merge x) Untaken a b = absurd (untaken words (Merge x) tt a b)
 one-asked words Untaken (Check y) a b = absurd (untaken words (Check y) tt b a)
 one-asked words Untaken (Board y) a b = absurd (untaken words (Board y) tt b a)
 one-asked words Untaken (Boards y) a b = absurd (untaken words (Boards y) tt b a)
+one-asked words Untaken (Serve y) a b = absurd (untaken words (Serve y) tt b a)
 one-asked words Untaken (Timetable y) a b = absurd (untaken words (Timetable y) tt b a)
 one-asked words Untaken (Merge y) a b = absurd (untaken words (Merge y) tt b a)
 one-asked words Untaken Untaken a b = refl
@@ -217,6 +249,7 @@ abbrev pub asked_by : Command → Asked
 asked_by (commands.Check dir) = Check dir.now
 asked_by (commands.Board words) = Board (texts_of words)
 asked_by (commands.Boards words) = Boards (boards_texts_of words)
+asked_by (commands.Serve words) = Serve (serve_texts_of words)
 asked_by (commands.Timetable words) = Timetable (timetable_texts_of words)
 asked_by (commands.Merge words) = Merge (merge_texts_of words)
 
@@ -225,6 +258,7 @@ for-command None x is = absurd is
 for-command (Some found) (commands.Check x) is = is
 for-command (Some found) (commands.Board x) is = is
 for-command (Some found) (commands.Boards x) is = is
+for-command (Some found) (commands.Serve x) is = is
 for-command (Some found) (commands.Timetable x) is = is
 for-command (Some found) (commands.Merge x) is = is
 
@@ -239,3 +273,9 @@ pub ends-asked : (plan : Asked → Plan) (words : List Text) (x command : Comman
     → (a b : Devices) (r s : Result Bool Refusal) → r ≡ s → Ends (plan (asked_by command)) a b s → (asked : Asked) → Asks words asked → Ends (plan asked) a b r
 ends-asked plan words x command is taken read a b r s same ends = as-asked words x taken read (λ asked. Ends (plan asked) a b r)
     (subst (λ (y : Command). Ends (plan (asked_by y)) a b r) (sym is) (subst (λ (e : Result Bool Refusal). Ends (plan (asked_by command)) a b e) (sym same) ends))
+
+-- where `serve` was read, the words ask for no other command
+pub unheard-asked : (words : List Text) (x : Command) (texts : LentServeTexts) → x ≡ commands.Serve texts → takes gtfs_app words ≡ true → IsCommandOf (subcommand_of gtfs_app words) x
+    → (P : Type 0) → (asked : Asked) → Asks words asked → HearsNothing asked → P
+unheard-asked words x texts is taken read P =
+    as-asked words x taken read (λ asked. HearsNothing asked → P) (subst (λ (y : Command). HearsNothing (asked_by y) → P) (sym is) (λ none. absurd none))

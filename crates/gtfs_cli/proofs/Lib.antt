@@ -40,3 +40,7 @@ mod OneOutcome
 mod OneCheck
 mod OneTimetable
 mod OneCommand
+mod Asking
+mod Answering
+mod Served
+mod OneAnswer

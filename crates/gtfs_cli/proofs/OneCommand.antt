@@ -3,7 +3,8 @@ use Rattle.std.proofs.Common.{◌≡◌, ℕ, true, true≢false, List, Some, sy
 use Rattle.clap.specs.Words.{Text, takes}
 use Rattle.gtfs_devices.specs.Folder.{Store}
 use Rattle.gtfs_commands.specs.Words.{gtfs_app}
-use Rattle.gtfs_cli.specs.Asked.{plan_of, Asked, Asks, Board, Boards, Check, Merge, Timetable, Untaken}
+use Rattle.gtfs_cli.specs.Asked.{plan_of, Asked, Asks, HearsNothing, Board, Boards, Check, Merge, Serve, Timetable, Untaken}
+use Rattle.gtfs_cli.specs.Seen.{Talk}
 use Rattle.gtfs_cli.proofs.OneBoard.{one-board}
 use Rattle.gtfs_cli.proofs.OneBoards.{one-boards}
 use Rattle.gtfs_cli.proofs.OneCheck.{one-check}
@@ -11,11 +12,12 @@ use Rattle.gtfs_cli.proofs.OneMerge.{one-merge}
 use Rattle.gtfs_cli.proofs.OneOutcome.{IsOne}
 use Rattle.gtfs_cli.proofs.OneTimetable.{one-timetable}
 
-pub one-command : (limit : ℕ) (store : Store) (words : List Text) (asked : Asked) → takes gtfs_app words ≡ true → Asks words asked
-    → IsOne (plan_of limit (Some store) words asked) (Some store)
-one-command limit store words (Check dir) taken asks = one-check limit store dir
-one-command limit store words (Board texts) taken asks = one-board limit store texts
-one-command limit store words (Boards texts) taken asks = one-boards limit store texts
-one-command limit store words (Timetable texts) taken asks = one-timetable limit store texts
-one-command limit store words (Merge texts) taken asks = one-merge limit store texts
-one-command limit store words Untaken taken asks = absurd (true≢false (sym taken ∙ asks))
+pub one-command : (limit : ℕ) (store : Store) (talk : Talk) (words : List Text) (asked : Asked) → takes gtfs_app words ≡ true → Asks words asked → HearsNothing asked
+    → IsOne (plan_of limit (Some store) talk words asked) (Some store)
+one-command limit store talk words (Check dir) taken asks quiet = one-check limit store dir
+one-command limit store talk words (Board texts) taken asks quiet = one-board limit store texts
+one-command limit store talk words (Boards texts) taken asks quiet = one-boards limit store texts
+one-command limit store talk words (Timetable texts) taken asks quiet = one-timetable limit store texts
+one-command limit store talk words (Merge texts) taken asks quiet = one-merge limit store texts
+one-command limit store talk words (Serve texts) taken asks quiet = absurd quiet
+one-command limit store talk words Untaken taken asks quiet = absurd (true≢false (sym taken ∙ asks))

@@ -14,7 +14,7 @@ use Rattle.gtfs_cli.specs.Messages.{line_of}
 use Rattle.gtfs_cli.specs.Plan.{passed}
 use Rattle.gtfs_cli.specs.Sending.{Begins}
 use Rattle.gtfs_cli.specs.TimetableOptions.{first_bad_timetable, judged_timetable, IsTimetableRequest, TimetableRequest}
-use Rattle.gtfs_cli.specs.Timetables.{route, timetable_judges, timetable_plan, timetable_text, IsRouteCause, IsTimetableText}
+use Rattle.gtfs_cli.specs.Timetables.{route, timetable_judges, timetable_plan, timetable_text, IsRouteCause, IsTimetablePart, IsTimetableText}
 use Rattle.gtfs_cli.specs.declared.commands.refusal.Refusal.{Refusal}
 use Rattle.gtfs_cli.specs.declared.commands.refusal.Refusal.TheVariants.{UnknownRoute}
 use Rattle.gtfs_cli.proofs.FolderEnds.{excludes-feed, one_dataset, one-feed, quiet-feed}
@@ -95,4 +95,4 @@ module _ (limit : ℕ) (store : Store) (asked : TimetableTexts) where
 
   pub one-timetable : IsOne (timetable_plan limit held asked) held
   one-timetable = one-printed held (timetable_judges limit held asked) (passed (IsTimetableText limit held asked)) (Begins (IsTimetableText limit held asked))
-      (Begins (IsTimetableText limit held asked)) 10 one-text one-judges (λ t f is. excludes-judges (t, is.1)) quiet-judges
+      (IsTimetablePart limit held asked) 10 one-text one-judges (λ t f is. excludes-judges (t, is.1)) quiet-judges

@@ -117,18 +117,18 @@ prints-up {A} W C D Cause a b (Err y) e is h = subst (λ (x : Refusal). PrintsTe
   no_failure = tt;
 })
 
-nothing-left : (C D : List ℕ → Type 0) → D [] → (r : Refusal) → (r ≡ OutputFailed → ⊥) → text_left C D [] r
-nothing-left C D none OutputFailed other = absurd (other refl)
-nothing-left C D none OutOfMemory other = none
-nothing-left C D none _ other = refl
+nothing-left : (C D : List ℕ → Type 0) (r : Refusal) → (r ≡ OutOfMemory → D []) → (r ≡ OutputFailed → ⊥) → text_left C D [] r
+nothing-left C D OutputFailed none other = absurd (other refl)
+nothing-left C D OutOfMemory none other = none refl
+nothing-left C D _ none other = refl
 
 -- refused before anything goes out
-pub prints-refused : {A : Type 0} (W C D : List ℕ → Type 0) (Cause : Refusal → Type 0) → D [] → (a : Output) (r : Result A Refusal) (e : Refusal) → IsErrAnd r (λ y. y ≡ e)
-    → Cause e ⊎ (e ≡ OutOfMemory) → (e ≡ OutputFailed → ⊥) → PrintsText W C D Cause a a r
-prints-refused W C D Cause none a (Ok x) e is cause other = absurd is
-prints-refused {A} W C D Cause none a (Err y) e is cause other = subst (λ (x : Refusal). PrintsText W C D Cause {T = A} a a (Err x)) (sym is) (record {
+pub prints-refused-so : {A : Type 0} (W C D : List ℕ → Type 0) (Cause : Refusal → Type 0) (a : Output) (r : Result A Refusal) (e : Refusal) → IsErrAnd r (λ y. y ≡ e)
+    → (e ≡ OutOfMemory → D []) → Cause e ⊎ (e ≡ OutOfMemory) → (e ≡ OutputFailed → ⊥) → PrintsText W C D Cause a a r
+prints-refused-so W C D Cause a (Ok x) e is none cause other = absurd is
+prints-refused-so {A} W C D Cause a (Err y) e is none cause other = subst (λ (x : Refusal). PrintsText W C D Cause {T = A} a a (Err x)) (sym is) (record {
   printed = tt;
-  left = ([], nothing-left C D none e other, Appends-nil a.told);
+  left = ([], nothing-left C D e none other, Appends-nil a.told);
   refused = refused-by e cause;
   told = output-kept a.failures e;
   grows = omega arith;
@@ -138,6 +138,11 @@ prints-refused {A} W C D Cause none a (Err y) e is cause other = subst (λ (x : 
     refused-by : (x : Refusal) → Cause x ⊎ (x ≡ OutOfMemory) → Cause x ⊎ IsSendingCause a.failures a.failures x
     refused-by x (inl c) = inl c
     refused-by x (inr memory) = inr (subst (λ (u : Refusal). IsSendingCause a.failures a.failures u) (sym memory) refl)
+
+-- the same, where nothing may have gone out before memory ran out
+pub prints-refused : {A : Type 0} (W C D : List ℕ → Type 0) (Cause : Refusal → Type 0) → D [] → (a : Output) (r : Result A Refusal) (e : Refusal) → IsErrAnd r (λ y. y ≡ e)
+    → Cause e ⊎ (e ≡ OutOfMemory) → (e ≡ OutputFailed → ⊥) → PrintsText W C D Cause a a r
+prints-refused W C D Cause none a r e is cause other = prints-refused-so W C D Cause a r e is (λ _. none) cause other
 
 -- the whole text went out
 pub prints-whole : {A : Type 0} (W C D : List ℕ → Type 0) (Cause : Refusal → Type 0) (a b : Output) (x : A) → SendsSome W a b → b.failures ≡ a.failures

@@ -8,10 +8,10 @@ use Rattle.gtfs_devices.specs.Folder.{Store}
 use Rattle.gtfs_table.proofs.FolderFacts.{calls-none}
 use Rattle.gtfs_commands.specs.Words.{gtfs_app, AreForHelpOrVersion, IsFaultOf}
 use Rattle.gtfs_commands.specs.declared.fault.WordsFault.{WordsFault}
-use Rattle.gtfs_cli.specs.Asked.{plan_of, words_plan, Asked, Asks, Board, Boards, Check, IsAnswer, IsWordsCause, Merge, Timetable, Untaken}
+use Rattle.gtfs_cli.specs.Asked.{plan_of, words_plan, Asked, Asks, Board, Boards, Check, IsAnswer, IsWordsCause, Merge, Serve, Timetable, Untaken}
 use Rattle.gtfs_cli.specs.Plan.{Ends}
 use Rattle.gtfs_cli.specs.Refusals.{TellsOutput}
-use Rattle.gtfs_cli.specs.Seen.{Device, Output}
+use Rattle.gtfs_cli.specs.Seen.{Device, Output, Talk}
 use Rattle.gtfs_cli.specs.Sending.{or_none, Begins, PrintsText}
 use Rattle.gtfs_cli.specs.UntakenWords.{text_for_output}
 use Rattle.gtfs_cli.specs.declared.commands.refusal.Refusal.{Refusal}
@@ -41,24 +41,25 @@ answer-cut {A} words a b text bytes is same n out rises grows r failed =
 
 -- ---- what a command ends with whose words were not read
 
-left-memory : (limit : ℕ) (held : Option Store) (words : List Text) (asked : Asked) → (plan_of limit held words asked).Left held [] OutOfMemory
-left-memory limit held words (Check dir) = (refl, inl refl)
-left-memory limit held words (Board texts) = (refl, inl refl)
-left-memory limit held words (Boards texts) = (refl, inl refl)
-left-memory limit held words (Timetable texts) = (refl, inl refl)
-left-memory limit held words (Merge texts) = inl (refl, refl)
-left-memory limit held words Untaken = (refl, inl refl)
+left-memory : (limit : ℕ) (held : Option Store) (talk : Talk) → talk.after ≡ talk.before → (words : List Text) (asked : Asked) → (plan_of limit held talk words asked).Left held [] OutOfMemory
+left-memory limit held talk same words (Check dir) = (refl, inl refl)
+left-memory limit held talk same words (Board texts) = (refl, inl refl)
+left-memory limit held talk same words (Boards texts) = (refl, inl refl)
+left-memory limit held talk same words (Serve texts) = (refl, (refl, same))
+left-memory limit held talk same words (Timetable texts) = (refl, inl refl)
+left-memory limit held talk same words (Merge texts) = inl (refl, refl)
+left-memory limit held talk same words Untaken = (refl, inl refl)
 
-module _ (words : List Text) (a : Device) (x y : Output) (r : Result Bool Refusal)
+module _ (talk : Talk) (same : talk.after ≡ talk.before) (words : List Text) (a : Device) (x y : Output) (r : Result Bool Refusal)
     (printed : PrintsText (IsAnswer words) (Begins (IsAnswer words)) (or_none (Begins (IsAnswer words))) (IsWordsCause words) x y r) where
   -- memory ran out before the words were read
   pub ends-unread : (asked : Asked) → IsErrAnd r (λ e. e ≡ OutOfMemory) → Keeps x.told y.told
-      → Ends (plan_of a.limit a.held words asked) (record { folders = a; output = x }) (record { folders = a; output = y }) r
+      → Ends (plan_of a.limit a.held talk words asked) (record { folders = a; output = x }) (record { folders = a; output = y }) r
   ends-unread asked is keeps = unread r is printed
     where
       unread : (s : Result Bool Refusal) → IsErrAnd s (λ e. e ≡ OutOfMemory)
           → PrintsText (IsAnswer words) (Begins (IsAnswer words)) (or_none (Begins (IsAnswer words))) (IsWordsCause words) x y s
-          → Ends (plan_of a.limit a.held words asked) (record { folders = a; output = x }) (record { folders = a; output = y }) s
+          → Ends (plan_of a.limit a.held talk words asked) (record { folders = a; output = x }) (record { folders = a; output = y }) s
       unread (Ok failed) none p = absurd none
       unread (Err e) is p =
           let quiet = subst (λ (n : Refusal). TellsOutput x.failures y.failures n) is p.told in
@@ -66,14 +67,14 @@ module _ (words : List Text) (a : Device) (x y : Output) (r : Result Bool Refusa
             done = tt;
             left = (
               [],
-              subst (λ (n : Refusal). (plan_of a.limit a.held words asked).Left a.held [] n) (sym is) (left-memory a.limit a.held words asked),
+              subst (λ (n : Refusal). (plan_of a.limit a.held talk words asked).Left a.held [] n) (sym is) (left-memory a.limit a.held talk same words asked),
               appends-nothing x.told y.told keeps,
             );
             refused = inr (is, (refl, quiet));
             told = p.told;
             grows = p.grows;
             no_failure = tt;
-            asks = asks-none (plan_of a.limit a.held words asked).calls a (Err e) e refl;
+            asks = asks-none (plan_of a.limit a.held talk words asked).calls a (Err e) e refl;
           }
 
   -- `clap` does not take the words
@@ -104,10 +105,11 @@ module _ (words : List Text) (a : Device) (x y : Output) (r : Result Bool Refusa
 
   -- whatever they ask for
   pub ends-fault : (taken : takes gtfs_app words ≡ true → IsErrAnd r (λ e. e ≡ OutOfMemory) × Keeps x.told y.told) → IfOk r (λ failed. failed ≡ false) → (asked : Asked) → Asks words asked
-      → Ends (plan_of a.limit a.held words asked) (record { folders = a; output = x }) (record { folders = a; output = y }) r
+      → Ends (plan_of a.limit a.held talk words asked) (record { folders = a; output = x }) (record { folders = a; output = y }) r
   ends-fault taken clean Untaken asks = ends-words clean
   ends-fault taken clean (Check dir) asks = let t = taken asks.taken in ends-unread (Check dir) t.0 t.1
   ends-fault taken clean (Board texts) asks = let t = taken asks.taken in ends-unread (Board texts) t.0 t.1
   ends-fault taken clean (Boards texts) asks = let t = taken asks.taken in ends-unread (Boards texts) t.0 t.1
+  ends-fault taken clean (Serve texts) asks = let t = taken asks.taken in ends-unread (Serve texts) t.0 t.1
   ends-fault taken clean (Timetable texts) asks = let t = taken asks.taken in ends-unread (Timetable texts) t.0 t.1
   ends-fault taken clean (Merge texts) asks = let t = taken asks.taken in ends-unread (Merge texts) t.0 t.1

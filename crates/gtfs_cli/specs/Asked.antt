@@ -2,7 +2,7 @@
 use Rattle.std.specs.Prelude.{◌≡◌, ⊤, ℕ, false, List, Option, Some}
 use Rattle.clap.specs.Words.{Text, takes}
 use Rattle.gtfs_devices.specs.Folder.{Store}
-use Rattle.gtfs_commands.specs.Words.{gtfs_app, AreForHelpOrVersion, AreRefused, AsksBoardOf, AsksBoardsOf, AsksCheckOf, AsksMergeOf, AsksTimetableOf, BoardTexts, BoardsTexts, IsFaultOf, MergeTexts, TimetableTexts}
+use Rattle.gtfs_commands.specs.Words.{gtfs_app, AreForHelpOrVersion, AreRefused, AsksBoardOf, AsksBoardsOf, AsksCheckOf, AsksMergeOf, AsksServeOf, AsksTimetableOf, BoardTexts, BoardsTexts, IsFaultOf, MergeTexts, ServeTexts, TimetableTexts}
 use Rattle.gtfs_commands.specs.declared.fault.WordsFault.{WordsFault}
 use Rattle.gtfs_cli.specs.Boards.{board_plan}
 use Rattle.gtfs_cli.specs.Checking.{check_plan}
@@ -10,7 +10,9 @@ use Rattle.gtfs_cli.specs.Judging.{followed_by, sending, Judged}
 use Rattle.gtfs_cli.specs.ManyBoards.{boards_plan}
 use Rattle.gtfs_cli.specs.Merges.{merge_plan}
 use Rattle.gtfs_cli.specs.Plan.{passed, prints, Plan}
+use Rattle.gtfs_cli.specs.Seen.{Talk}
 use Rattle.gtfs_cli.specs.Sending.{Begins}
+use Rattle.gtfs_cli.specs.Serving.{serve_plan}
 use Rattle.gtfs_cli.specs.Timetables.{timetable_plan}
 use Rattle.gtfs_cli.specs.UntakenWords.{text_for_output}
 use Rattle.gtfs_cli.specs.declared.commands.refusal.Refusal.{Refusal}
@@ -21,6 +23,7 @@ pub data Asked : Type 0 where
   Check : Text → Asked
   Board : BoardTexts → Asked
   Boards : BoardsTexts → Asked
+  Serve : ServeTexts → Asked
   Timetable : TimetableTexts → Asked
   Merge : MergeTexts → Asked
   Untaken : Asked
@@ -30,6 +33,7 @@ abbrev pub Asks : List Text → Asked → Type 0
 Asks words (Check dir) = AsksCheckOf words dir
 Asks words (Board texts) = AsksBoardOf words texts
 Asks words (Boards texts) = AsksBoardsOf words texts
+Asks words (Serve texts) = AsksServeOf words texts
 Asks words (Timetable texts) = AsksTimetableOf words texts
 Asks words (Merge texts) = AsksMergeOf words texts
 Asks words Untaken = takes gtfs_app words ≡ false
@@ -57,11 +61,17 @@ words_plan held words = prints held (followed_by (usage words) sending) (passed 
 
 -- ---- what is done
 
--- what is asked for, over folders that read files up to a limit and hold this
-abbrev pub plan_of : ℕ → Option Store → List Text → Asked → Plan
-plan_of limit held words (Check dir) = check_plan limit held dir
-plan_of limit held words (Board texts) = board_plan limit held texts
-plan_of limit held words (Boards texts) = boards_plan limit held texts
-plan_of limit held words (Timetable texts) = timetable_plan limit held texts
-plan_of limit held words (Merge texts) = merge_plan limit held texts
-plan_of limit held words Untaken = words_plan held words
+-- what is asked for, over folders that read files up to a limit and hold this, in a conversation, in which only `serve` takes part
+abbrev pub plan_of : ℕ → Option Store → Talk → List Text → Asked → Plan
+plan_of limit held talk words (Check dir) = check_plan limit held dir
+plan_of limit held talk words (Board texts) = board_plan limit held texts
+plan_of limit held talk words (Boards texts) = boards_plan limit held texts
+plan_of limit held talk words (Serve texts) = serve_plan limit held talk texts
+plan_of limit held talk words (Timetable texts) = timetable_plan limit held texts
+plan_of limit held talk words (Merge texts) = merge_plan limit held texts
+plan_of limit held talk words Untaken = words_plan held words
+
+-- it is another command than `serve`, or none, so no line of the input is asked for
+abbrev pub HearsNothing : Asked → Type 0
+HearsNothing (Serve texts) = ⊥
+HearsNothing _ = ⊤

@@ -2,7 +2,7 @@
 use Rattle.std.specs.Prelude.{◌≡◌, ℕ, List, [], ◌++◌, codes, decimal, string_bytes, ⊤}
 use Rattle.gtfs_columns.specs.Values.{plain}
 use Rattle.gtfs_cli.specs.declared.commands.refusal.Refusal.{Refusal}
-use Rattle.gtfs_cli.specs.declared.commands.refusal.Refusal.TheVariants.{Words, BadValue, NotThere, Unreadable, OverLimit, HasErrors, NoZone, UnknownStop, UnknownRoute, UntilBeforeFrom, ZonesDiffer, MergeTooLarge, Unwritable, Line, OutputFailed, OutOfMemory}
+use Rattle.gtfs_cli.specs.declared.commands.refusal.Refusal.TheVariants.{Words, BadValue, NotThere, Unreadable, OverLimit, HasErrors, NoZone, UnknownStop, UnknownRoute, UntilBeforeFrom, ZonesDiffer, MergeTooLarge, Unwritable, Line, InputFailed, OutputFailed, OutOfMemory}
 use Rattle.gtfs_cli.specs.declared.commands.request_fault.RequestFault.{RequestFault}
 use Rattle.gtfs_cli.specs.declared.commands.request_fault.RequestFault.TheVariants as requests
 
@@ -38,6 +38,7 @@ message MergeTooLarge = line_of (codes "merged feed too large") []
 message (Unwritable path) = line_of path.now (codes " cannot be written")
 message UntilBeforeFrom = line_of (codes "until lies before from") []
 message (Line fault) = line_of (request_text fault) (decimal (request_line fault))
+message InputFailed = line_of (codes "input cannot be read") []
 message OutputFailed = line_of (codes "output failed") []
 message OutOfMemory = line_of (codes "out of memory") []
 

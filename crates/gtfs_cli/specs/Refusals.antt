@@ -7,7 +7,7 @@ use Rattle.gtfs_cli.specs.HeldFiles.{HoldsErrors, HoldsKeptFile, LacksFeed}
 use Rattle.gtfs_cli.specs.declared.commands.moments.Moment.{Moment}
 use Rattle.gtfs_cli.specs.declared.commands.moments.Moment.TheVariants.{Instant, ServiceDay}
 use Rattle.gtfs_cli.specs.declared.commands.refusal.Refusal.{Refusal}
-use Rattle.gtfs_cli.specs.declared.commands.refusal.Refusal.TheVariants.{Words, BadValue, NotThere, Unreadable, OverLimit, HasErrors, NoZone, UnknownStop, UnknownRoute, UntilBeforeFrom, ZonesDiffer, MergeTooLarge, Unwritable, Line, OutputFailed, OutOfMemory}
+use Rattle.gtfs_cli.specs.declared.commands.refusal.Refusal.TheVariants.{Words, BadValue, NotThere, Unreadable, OverLimit, HasErrors, NoZone, UnknownStop, UnknownRoute, UntilBeforeFrom, ZonesDiffer, MergeTooLarge, Unwritable, Line, InputFailed, OutputFailed, OutOfMemory}
 use Rattle.gtfs_cli.specs.declared.commands.request_fault.RequestFault.{RequestFault}
 use Rattle.gtfs_cli.specs.declared.commands.request_fault.RequestFault.TheVariants as requests
 
@@ -32,6 +32,7 @@ status_of MergeTooLarge = 1
 status_of (Unwritable path) = 3
 status_of UntilBeforeFrom = 2
 status_of (Line fault) = request_status fault
+status_of InputFailed = 3
 status_of OutputFailed = 3
 status_of OutOfMemory = 4
 

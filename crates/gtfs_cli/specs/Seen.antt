@@ -1,5 +1,6 @@
 -- What a run sees of its folders and its outputs, and what it leaves: of each, one record.
-use Rattle.std.specs.Prelude.{ℕ, List, Option}
+use Rattle.std.specs.Prelude.{ℕ, List, [], Option, None, Some}
+use Rattle.gtfs_conversation.specs.Conversation.{Hearing}
 use Rattle.gtfs_devices.specs.Device.{Calls}
 use Rattle.gtfs_devices.specs.Folder.{Store}
 
@@ -19,3 +20,13 @@ pub record Output : Type 0 where
 pub record Devices : Type 0 where
   pub folders : Device
   pub output : Output
+
+-- a conversation: what had gone out before it, and the input before and after it
+pub record Talk : Type 0 where
+  pub told : Option (List ℕ)
+  pub before : Hearing
+  pub after : Hearing
+
+-- an input without lines, which is never asked for one
+abbrev pub no_lines : Hearing
+no_lines = record { waiting = Some []; asked = None; failures = 0 }

@@ -1,6 +1,7 @@
 -- Texts that go out to an output, which may fail.
 use Rattle.std.specs.Prelude.{◌≡◌, ◌≤◌, ◌⊎◌, ◌++◌, ℕ, List, [], Option, Result, IfErr, OnErr, OnOk}
 use Rattle.std.specs.Io.KnownBytes.{Appends}
+use Rattle.std.specs.List.{flat_map}
 use Rattle.gtfs_devices.specs.Device.{Rises}
 use Rattle.gtfs_cli.specs.Refusals.{TellsOutput}
 use Rattle.gtfs_cli.specs.declared.commands.refusal.Refusal.{Refusal}
@@ -44,6 +45,10 @@ pub record Begins (Text : List ℕ → Type 0) (part : List ℕ) : Type 0 where
   pub left : List ℕ
   pub is_text : Text text
   pub whole : text ≡ part ++ left
+
+-- the texts of the first of some things, one after another: of all, of some or of none
+abbrev pub AreFirst : {A : Type 0} → (A → List ℕ) → List A → List ℕ → Type 0
+AreFirst {A} text_of all text = (first : List A) × (rest : List A) × (all ≡ first ++ rest) × (text ≡ flat_map text_of first)
 
 -- nothing, or a text of which this is so
 abbrev pub or_none : (List ℕ → Type 0) → List ℕ → Type 0

@@ -10,7 +10,7 @@ use Rattle.gtfs_times.specs.Filling.{timed}
 use Rattle.gtfs_board.specs.Timetable.{is_route, sheet_text, sheets}
 use Rattle.gtfs_commands.specs.Words.{TimetableTexts}
 use Rattle.gtfs_cli.specs.HeldFiles.{HoldsTables}
-use Rattle.gtfs_cli.specs.Sending.{Begins}
+use Rattle.gtfs_cli.specs.Sending.{AreFirst, Begins}
 use Rattle.gtfs_cli.specs.TimetableOptions.{judged_timetable, IsTimetableRequest, TimetableRequest}
 use Rattle.gtfs_cli.specs.Judging.{feed, followed_by, sending, values, Judged}
 use Rattle.gtfs_cli.specs.Plan.{passed, prints, Plan}
@@ -29,6 +29,10 @@ timetable_request_of v = record { day = v.day; direction = v.direction; times = 
 -- the texts of the sheets of a route, one after another, of the feed with the times that are asked for
 abbrev pub timetable_text : Content → List ℕ → TimetableRequest → List ℕ
 timetable_text f route r = flat_map sheet_text (sheets (timed r.times f) route r.direction r.day)
+
+-- the first sheets of a route that the feed has, whole
+abbrev pub AreFirstSheets : Content → List ℕ → TimetableRequest → List ℕ → Type 0
+AreFirstSheets f route r text = (is_route f route ≡ true) × AreFirst sheet_text (sheets (timed r.times f) route r.direction r.day) text
 
 -- ---- a folder
 
@@ -50,6 +54,11 @@ pub record IsTimetableText (limit : ℕ) (held : Option Store) (asked : Timetabl
   pub known : is_route (content_of setting.dataset) asked.route ≡ true
   pub is_text : text ≡ timetable_text (content_of setting.dataset) asked.route setting.request
 
+-- the first sheets of that timetable, whole
+pub record IsTimetablePart (limit : ℕ) (held : Option Store) (asked : TimetableTexts) (text : List ℕ) : Type 0 where
+  pub setting : TimetableSetting limit held asked
+  pub are_first : AreFirstSheets (content_of setting.dataset) asked.route setting.request text
+
 -- when a route is refused
 abbrev pub IsRouteCause : ℕ → Option Store → TimetableTexts → Refusal → Type 0
 IsRouteCause limit held asked UnknownRoute = LacksRoute limit held asked
@@ -66,14 +75,14 @@ timetable_judges limit held asked =
 -- the timetable of a route on a date
 abbrev pub timetable_plan : ℕ → Option Store → TimetableTexts → Plan
 timetable_plan limit held asked = prints held (timetable_judges limit held asked) (passed (IsTimetableText limit held asked))
-    (Begins (IsTimetableText limit held asked)) (Begins (IsTimetableText limit held asked)) 10
+    (Begins (IsTimetableText limit held asked)) (IsTimetablePart limit held asked) 10
 
 -- ---- what the parts of the work give
 
--- why there are no sheets of a feed
+-- why there are no sheets of a feed; memory runs out only where the feed has the route
 abbrev pub IsSheetsCause : Content → List ℕ → Refusal → Type 0
 IsSheetsCause f route UnknownRoute = is_route f route ≡ false
-IsSheetsCause f route OutOfMemory = ⊤
+IsSheetsCause f route OutOfMemory = is_route f route ≡ true
 IsSheetsCause f route _ = ⊥
 
 -- the text of the sheets of a route that the feed has

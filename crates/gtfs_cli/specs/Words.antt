@@ -9,8 +9,16 @@ pub use Rattle.gtfs_commands.specs.CommandLine.{gtfs_app}
 pub use Rattle.gtfs_cli.specs.Asked.{Asked}
 -- the words ask for it
 pub use Rattle.gtfs_cli.specs.Asked.{Asks}
+-- what is given to `serve`
+pub use Rattle.gtfs_commands.specs.Asked.{ServeTexts}
 -- ---- `run`: what is done, and how it ends
 
+-- a conversation: what had gone out before it, and the input before and after it
+pub use Rattle.gtfs_cli.specs.Seen.{Talk}
+-- an input without lines, which is never asked for one
+pub use Rattle.gtfs_cli.specs.Seen.{no_lines}
+-- it is another command than `serve`, or none, so no line of the input is asked for
+pub use Rattle.gtfs_cli.specs.Asked.{HearsNothing}
 -- what is then judged, in which order, what is printed and written, and how many calls of the folders are made
 pub use Rattle.gtfs_cli.specs.Asked.{plan_of}
 -- the folders and the output, as a run sees them and leaves them
@@ -41,5 +49,7 @@ pub use Rattle.gtfs_cli.specs.Outcomes.{Outcome}
 pub use Rattle.gtfs_cli.specs.Outcomes.{IsOutcome}
 -- the folders and the output did not fail, and memory sufficed
 pub use Rattle.gtfs_cli.specs.Outcomes.{IsUnhindered}
+-- all lines of an input were answered, one after another, and memory sufficed for each answer
+pub use Rattle.gtfs_cli.specs.Serving.{IsWhollyServed}
 -- a run ended with an outcome that has a property
 pub use Rattle.gtfs_cli.specs.Outcomes.{EndsAsOne}

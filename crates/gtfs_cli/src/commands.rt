@@ -3,15 +3,16 @@ ghost use Rattle.std.specs.Prelude.{◌≡◌, ◌≢◌, ◌≤◌, List, false
 ghost use Rattle.std.specs.Io.KnownBytes.{Appends, Keeps};
 ghost use Rattle.clap.specs.Words.{Text};
 ghost use Rattle.gtfs_commands.specs.Words.{no_memory, IsFaultOf};
-ghost use Rattle.gtfs_cli.specs.Asked.{plan_of, Asked, Asks, IsAnswer, IsWordsCause};
+ghost use Rattle.gtfs_cli.specs.Asked.{plan_of, Asked, Asks, HearsNothing, IsAnswer, IsWordsCause};
 ghost use Rattle.gtfs_cli.specs.Failures.{FailedNowhere};
 ghost use Rattle.gtfs_cli.specs.Plan.{answer_of, Ends, IsRun, TellsEnd};
 ghost use Rattle.gtfs_cli.specs.Refusals.{status_in};
-ghost use Rattle.gtfs_cli.specs.Seen.{Devices, Output};
+ghost use Rattle.gtfs_cli.specs.Seen.{no_lines, Devices, Output, Talk};
 ghost use Rattle.gtfs_cli.specs.Sending.{or_none, Begins, PrintsText};
 ghost use Rattle.gtfs_cli.specs.UntakenWords.{text_for_output, AnswersRefused};
 ghost use Rattle.gtfs_cli.specs.declared.commands.refusal.Refusal.TheVariants.{OutOfMemory};
 
+mod answers;
 mod board;
 mod boards;
 mod check;
@@ -24,19 +25,22 @@ mod messages;
 mod moments;
 mod names;
 mod paths;
+mod questions;
 mod refusal;
 mod request_fault;
 mod request_lines;
 mod requests;
 mod send;
+mod serve;
 mod times;
 mod timetable;
 mod timetable_values;
 mod values;
 mod zone_file;
 
-use crate::seen::{DevicesSeen, OutSeen};
+use crate::seen::{DevicesSeen, InputSeen, OutSeen};
 use gtfs_commands::{Command, WordsFault, read_words};
+use gtfs_conversation::{Input, NoInput};
 use gtfs_table::{Folders, Out, write_text};
 use refusal::Refusal;
 use std::alloc::Global;
@@ -88,6 +92,8 @@ use std::hash::RandomState;
 /// A check and a timetable make at most 10 calls of the folders, a board 11, boards 12 and a merge
 /// 29, of which the last nine write: exactly so many where they are done. For help, the version and
 /// words that are refused there is none.
+///
+/// There is no input here, so `serve` has nothing to answer and ends with 0; see [`run_with_input`].
 pub fn run<S: AsStr, F: Folders, O: Out, E: Out>(
     alloc: Global,
     random: RandomState,
@@ -117,15 +123,82 @@ pub fn run<S: AsStr, F: Folders, O: Out, E: Out>(
         } in
         let err_before : Output = record { told = E.told err.old; failures = E.failure_count err.old } in
         let err_after : Output = record { told = E.told err.new; failures = E.failure_count err.new } in
+        let talk : Talk = record { told = O.told out.old; before = no_lines; after = no_lines } in
         (asked : Asked) → Asks (map S.text words.now) asked
-        → IsRun (plan_of (F.limit folders.old) (F.held folders.old) (map S.text words.now) asked)
+        → IsRun (plan_of (F.limit folders.old) (F.held folders.old) talk (map S.text words.now) asked)
         before after err_before err_after result }
     ensures statuses { result ≤ 4 }
     ensures no_failure { result ≢ 3 → FailedNowhere
         (record { folders = F.failure_count folders.old; output = O.failure_count out.old })
         (record { folders = F.failure_count folders.new; output = O.failure_count out.new }) }
 {
-    let ended = command(alloc, random, words, folders, out);
+    run_with_input(alloc, random, words, folders, &mut NoInput, out, err)
+}
+
+/// Does what [`run`] does, with an input whose lines `serve` answers. A line is asked for when the
+/// answers of all lines before it have gone out and left the buffer of `out`. No other command asks
+/// for a line.
+///
+/// `serve` judges the folder, its feed and the zone file, as a board does, and makes 11 calls of the
+/// folders. It ends with 0 where the input ended and all lines were answered, with 3 where the input
+/// could not be read, after the answers of all lines before, or the output failed, after which
+/// nothing is read, and with 4 only where memory ran out before a line was asked for. What is refused
+/// of a line is told in its answer, and changes no status.
+pub fn run_with_input<S: AsStr, F: Folders, I: Input<O>, O: Out, E: Out>(
+    alloc: Global,
+    random: RandomState,
+    words: &[S],
+    folders: &mut F,
+    input: &mut I,
+    out: &mut O,
+    err: &mut E,
+) -> u8
+    ensures asks { (asked : Asked) × Asks (map S.text words.now) asked }
+    ensures ends { let before : Devices = record {
+      folders = record {
+        limit = F.limit folders.old;
+        held = F.held folders.old;
+        failures = F.failure_count folders.old;
+        calls = F.calls folders.old;
+      };
+      output = record { told = O.told out.old; failures = O.failure_count out.old };
+    } in
+        let after : Devices = record {
+          folders = record {
+            limit = F.limit folders.new;
+            held = F.held folders.new;
+            failures = F.failure_count folders.new;
+            calls = F.calls folders.new;
+          };
+          output = record { told = O.told out.new; failures = O.failure_count out.new };
+        } in
+        let err_before : Output = record { told = E.told err.old; failures = E.failure_count err.old } in
+        let err_after : Output = record { told = E.told err.new; failures = E.failure_count err.new } in
+        let talk : Talk = record {
+          told = O.told out.old;
+          before = record {
+            waiting = I.waiting input.old;
+            asked = I.asked input.old;
+            failures = I.failure_count input.old;
+          };
+          after = record {
+            waiting = I.waiting input.new;
+            asked = I.asked input.new;
+            failures = I.failure_count input.new;
+          };
+        } in
+        (asked : Asked) → Asks (map S.text words.now) asked
+        → IsRun (plan_of (F.limit folders.old) (F.held folders.old) talk (map S.text words.now) asked)
+        before after err_before err_after result }
+    ensures unheard { (asked : Asked) → Asks (map S.text words.now) asked → HearsNothing asked
+        → input.new ≡ input.old }
+    ensures statuses { result ≤ 4 }
+    ensures no_failure { result ≢ 3 → FailedNowhere
+        (record { folders = F.failure_count folders.old; output = O.failure_count out.old })
+        (record { folders = F.failure_count folders.new; output = O.failure_count out.new }) }
+    ensures no_input_failure { result ≢ 3 → I.failure_count input.new ≡ I.failure_count input.old }
+{
+    let ended = command(alloc, random, words, folders, input, out);
     finish(ended, err)
 }
 
@@ -147,17 +220,25 @@ fn finish<E: Out>(ended: Result<bool, Refusal<'_>>, err: &mut E) -> u8
 }
 
 // Does what the words ask for, and answers whether a check found an error.
-fn command<'w, S: AsStr, F: Folders, O: Out>(
+fn command<'w, S: AsStr, F: Folders, I: Input<O>, O: Out>(
     alloc: Global,
     random: RandomState,
     words: &'w [S],
     folders: &mut F,
+    input: &mut I,
     out: &mut O,
 ) -> Result<bool, Refusal<'w>>
-    ensures { (asked : Asked) → Asks (map S.text words.entry.now) asked → Ends
-        (plan_of (F.limit folders.old) (F.held folders.old) (map S.text words.entry.now) asked)
+    ensures ends { let talk : Talk = record {
+      told = O.told out.old;
+      before = ⟦<I as InputSeen<O>>⟧.seen input.old;
+      after = ⟦<I as InputSeen<O>>⟧.seen input.new;
+    } in
+        (asked : Asked) → Asks (map S.text words.entry.now) asked → Ends
+        (plan_of (F.limit folders.old) (F.held folders.old) talk (map S.text words.entry.now) asked)
         (⟦<(F, O) as DevicesSeen>⟧.seen (folders.old, out.old))
         (⟦<(F, O) as DevicesSeen>⟧.seen (folders.new, out.new)) result }
+    ensures unheard { (asked : Asked) → Asks (map S.text words.entry.now) asked → HearsNothing asked
+        → input.new ≡ input.old }
 {
     match read_words(alloc, words) {
         Ok(Command::Check(dir)) => check::print_report(alloc, dir, folders, out),
@@ -166,6 +247,9 @@ fn command<'w, S: AsStr, F: Folders, O: Out>(
         }
         Ok(Command::Boards(given)) => {
             answer(boards::print_boards(alloc, random, &given, folders, out))
+        }
+        Ok(Command::Serve(given)) => {
+            answer(serve::serve(alloc, random, &given, folders, input, out))
         }
         Ok(Command::Timetable(given)) => {
             answer(timetable::print_timetable(alloc, random, &given, folders, out))

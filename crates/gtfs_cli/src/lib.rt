@@ -1,14 +1,16 @@
 //! The command line of the program `gtfs`, as a library.
 //!
-//! [`run`] reads the words of the command line and does what they ask for, over folders and outputs
-//! that its caller hands in, and answers the status with which the program is to end:
+//! [`run_with_input`] reads the words of the command line and does what they ask for, over folders, an
+//! input and outputs that its caller hands in, and answers the status with which the program is to
+//! end. [`run`] is the same call with an input without lines.
 //!
 //! - 0: done;
 //! - 1: the feed has errors, or no stop or route of that id, or two feeds cannot be merged;
 //! - 2: the words are not as the usage wants them, the value of an option is bad, a board would end
 //!   before it begins, or a line of a file of requests is bad;
 //! - 3: a folder or a file is not there, cannot be read or is over the limit, a zone file is none, a
-//!   file of requests is not UTF-8, a folder cannot be written, or the output failed;
+//!   file of requests is not UTF-8, a folder cannot be written, the input cannot be read, or the
+//!   output failed;
 //! - 4: memory ran out, and neither a folder nor the output failed.
 //!
 //! `gtfs check DIR` prints what is wrong with the feed in a folder.
@@ -23,6 +25,11 @@
 //! file of requests, below a heading `== ID FROM UNTIL`. A line has three to five fields between
 //! tabs: ID, FROM, UNTIL, and then perhaps N and KEY, with the values that `board` takes. All lines
 //! are judged before anything is printed.
+//!
+//! `gtfs serve DIR --zone FILE [--interpolate]` reads the feed and the zone once, and then answers the
+//! lines of its input, each before it asks for the next. A line is `board` and the fields of a line
+//! of requests, or `timetable`, ROUTE, D and perhaps a direction, with tabs between them. An answer is
+//! what `board` or `timetable` prints, or a line that begins with `!! `, and then an empty line.
 //!
 //! `gtfs timetable DIR --route ID --date D [--direction 0|1] [--interpolate]` prints the
 //! runs of a route on a date, a sheet for each direction and list of stops. D is a date
@@ -43,7 +50,7 @@
 //!
 //! Where a command cannot be done, one line on the error output says why.
 //!
-//! [`close`] then flushes the output. What a program has to say that cannot call `run`, or whose
+//! [`close`] then flushes the output. What a program has to say that cannot make this call, or whose
 //! output is not flushed, is a [`Fault`], which [`tell`] sends to the error output.
 //!
 //! ```text
@@ -60,7 +67,7 @@ mod law;
 mod report;
 mod seen;
 
-pub use commands::run;
+pub use commands::{run, run_with_input};
 pub use ending::{close, tell};
 pub use fault::Fault;
-pub use law::{outcomes_are_one, runs_end_with_outcomes};
+pub use law::{conversations_are_one, outcomes_are_one, runs_end_with_outcomes};

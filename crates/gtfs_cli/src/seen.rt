@@ -1,4 +1,5 @@
-//! What contracts see of folders and outputs: one record of each, in place of every member of their traits.
+//! What contracts see of folders, inputs and outputs: one record of each, in place of every member of their traits.
+use gtfs_conversation::Input;
 use gtfs_table::{Folders, Out};
 
 pub(crate) trait FoldersSeen {
@@ -29,4 +30,14 @@ pub(crate) trait DevicesSeen {
 
 impl<F: Folders, O: Out> DevicesSeen for (F, O) {
     ghost seen = { λ x. record { folders = ⟦<F as FoldersSeen>⟧.seen x.0; output = ⟦<O as OutSeen>⟧.seen x.1 } };
+}
+
+pub(crate) trait InputSeen<O: Out> {
+    ghost use Rattle.gtfs_conversation.specs.Conversation.{Hearing};
+
+    ghost seen: { Self → Hearing };
+}
+
+impl<O: Out, I: Input<O>> InputSeen<O> for I {
+    ghost seen = { λ i. record { waiting = I.waiting i; asked = I.asked i; failures = I.failure_count i } };
 }

@@ -30,3 +30,5 @@ mod merges;
 mod near_stops;
 #[cfg(test)]
 mod outputs;
+#[cfg(test)]
+mod serving;

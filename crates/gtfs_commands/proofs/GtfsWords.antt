@@ -10,8 +10,8 @@ use Rattle.clap.specs.Walk.{answers_to, nothing_held, rows_after, walk}
 use Rattle.clap.specs.declared.error.kind.ErrorKind.{ErrorKind}
 use Rattle.clap.specs.declared.error.kind.ErrorKind.TheVariants as kind
 use Rattle.clap.specs.declared.parser.matches.ArgMatches.{ArgMatches}
-use Rattle.gtfs_commands.specs.Asked.{HasBoard, HasBoards, HasCheck, HasMerge, HasTimetable, IsWhole}
-use Rattle.gtfs_commands.specs.CommandLine.{board_app, boards_app, check_app, gtfs_app, merge_app, timetable_app}
+use Rattle.gtfs_commands.specs.Asked.{HasBoard, HasBoards, HasCheck, HasMerge, HasServe, HasTimetable, IsWhole}
+use Rattle.gtfs_commands.specs.CommandLine.{board_app, boards_app, check_app, gtfs_app, merge_app, serve_app, timetable_app}
 use Rattle.gtfs_commands.specs.Untaken.{no_memory, IsFaultOf, IsToldOf}
 use Rattle.gtfs_commands.specs.declared.fault.WordsFault.{WordsFault}
 use Rattle.gtfs_commands.specs.declared.fault.WordsFault.TheVariants as fault
@@ -42,14 +42,17 @@ board_built = below board_app
 abbrev boards_built : Shape
 boards_built = below boards_app
 
+abbrev serve_built : Shape
+serve_built = below serve_app
+
 abbrev timetable_built : Shape
 timetable_built = below timetable_app
 
 abbrev merge_built : Shape
 merge_built = below merge_app
 
-are_five : (built gtfs_app).subs ≡ check_built ∷ board_built ∷ boards_built ∷ timetable_built ∷ merge_built ∷ []
-are_five = refl
+are_six : (built gtfs_app).subs ≡ check_built ∷ board_built ∷ boards_built ∷ serve_built ∷ timetable_built ∷ merge_built ∷ []
+are_six = refl
 
 -- where nothing required is wanting, the id of `check` has a text
 has_check : (rows : List Row) → are_filled rows ≡ true → (take.is_given (codes "DIR") rows && true) ≡ true → HasCheck rows
@@ -94,6 +97,16 @@ has_boards rows filled all =
       requests = given_text (codes "requests") rows filled files.0;
     }
 
+-- and each id that `serve` needs
+has_serve : (rows : List Row) → are_filled rows ≡ true
+    → (take.is_given (codes "DIR") rows && (take.is_given (codes "zone") rows && true)) ≡ true
+    → HasServe rows
+has_serve rows filled all =
+    let zone = take.is_given (codes "zone") rows && true in
+    let dirs = and_parts (take.is_given (codes "DIR") rows) zone all in
+    let zones = and_parts (take.is_given (codes "zone") rows) true dirs.1 in
+    record { dir = given_text (codes "DIR") rows filled dirs.0; zone = given_text (codes "zone") rows filled zones.0 }
+
 -- and each id that `timetable` needs
 has_timetable : (rows : List Row) → are_filled rows ≡ true
     → (take.is_given (codes "DIR") rows && (take.is_given (codes "route") rows && (take.is_given (codes "date") rows && true))) ≡ true
@@ -131,44 +144,50 @@ entered_whole : (stop : Option (Text × List Text)) → take.entered_passes (bui
 entered_whole None passes has = cc
 entered_whole (Some p) passes has =
     go (answers_to p.0 (label_of check_built)) (answers_to p.0 (label_of board_built)) (answers_to p.0 (label_of boards_built))
-    (answers_to p.0 (label_of timetable_built)) (answers_to p.0 (label_of merge_built)) passes has
+    (answers_to p.0 (label_of serve_built)) (answers_to p.0 (label_of timetable_built)) (answers_to p.0 (label_of merge_built)) passes has
   where
-    named : Bool → Bool → Bool → Bool → Bool → Option Shape
-    named checks single boards timetables merges =
+    named : Bool → Bool → Bool → Bool → Bool → Bool → Option Shape
+    named checks single boards serves timetables merges =
         if checks then Some check_built else (if single then Some board_built else (if boards then Some boards_built
-        else (if timetables then Some timetable_built else (if merges then Some merge_built else None))))
+        else (if serves then Some serve_built else (if timetables then Some timetable_built else (if merges then Some merge_built else None)))))
 
-    go : (checks single boards timetables merges : Bool)
-        → option_map_or (λ s. take.level_passes s [] nothing_held p.1 false) (named checks single boards timetables merges) true ≡ true
-        → is_some (option_map (λ s. rows_at s p.1) (named checks single boards timetables merges)) ≡ true
-        → IsWhole (option_map (λ s. rows_at s p.1) (named checks single boards timetables merges))
-    go true single boards timetables merges passes has =
+    go : (checks single boards serves timetables merges : Bool)
+        → option_map_or (λ s. take.level_passes s [] nothing_held p.1 false) (named checks single boards serves timetables merges) true ≡ true
+        → is_some (option_map (λ s. rows_at s p.1) (named checks single boards serves timetables merges)) ≡ true
+        → IsWhole (option_map (λ s. rows_at s p.1) (named checks single boards serves timetables merges))
+    go true single boards serves timetables merges passes has =
         inl (refl, has_check (rows_after check_built.rules [] p.1) (level_filled check_built [] p.1 false refl passes) (level_given check_built [] p.1 passes))
-    go false true boards timetables merges passes has =
+    go false true boards serves timetables merges passes has =
         inr (inl (
           refl,
           has_board (rows_after board_built.rules [] p.1) (level_filled board_built [] p.1 false refl passes)
               (level_given board_built [] p.1 passes),
         ))
-    go false false true timetables merges passes has =
+    go false false true serves timetables merges passes has =
         inr (inr (inl (
           refl,
           has_boards (rows_after boards_built.rules [] p.1) (level_filled boards_built [] p.1 false refl passes)
               (level_given boards_built [] p.1 passes),
         )))
-    go false false false true merges passes has =
+    go false false false true timetables merges passes has =
         inr (inr (inr (inl (
+          refl,
+          has_serve (rows_after serve_built.rules [] p.1) (level_filled serve_built [] p.1 false refl passes)
+              (level_given serve_built [] p.1 passes),
+        ))))
+    go false false false false true merges passes has =
+        inr (inr (inr (inr (inl (
           refl,
           has_timetable (rows_after timetable_built.rules [] p.1) (level_filled timetable_built [] p.1 false refl passes)
               (level_given timetable_built [] p.1 passes),
-        ))))
-    go false false false false true passes has =
-        inr (inr (inr (inr (
+        )))))
+    go false false false false false true passes has =
+        inr (inr (inr (inr (inr (
           refl,
           has_merge (rows_after merge_built.rules [] p.1) (level_filled merge_built [] p.1 false refl passes)
               (level_given merge_built [] p.1 passes),
-        ))))
-    go false false false false false passes has = cc
+        )))))
+    go false false false false false false passes has = cc
 
 -- words that are taken name a command and give all that it needs
 pub whole : (words : List Text) → takes gtfs_app words ≡ true → IsWhole (subcommand_of gtfs_app words)

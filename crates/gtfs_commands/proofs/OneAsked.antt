@@ -2,7 +2,7 @@
 use Rattle.std.proofs.Common.{◌≡◌, ◌∙◌, List, Option, Some, None, ap, sym}
 use Rattle.std.specs.Prelude.{unwrap_or}
 use Rattle.clap.specs.Words.{Row, Text}
-use Rattle.gtfs_commands.specs.Asked.{AsksBoardOf, AsksBoardsOf, AsksCheckOf, AsksMergeOf, AsksTimetableOf, BoardTexts, BoardsTexts, ForBoard, ForBoards, ForCheck, ForMerge, ForTimetable, MergeTexts, TimetableTexts}
+use Rattle.gtfs_commands.specs.Asked.{AsksBoardOf, AsksBoardsOf, AsksCheckOf, AsksMergeOf, AsksServeOf, AsksTimetableOf, BoardTexts, BoardsTexts, ForBoard, ForBoards, ForCheck, ForMerge, ForServe, ForTimetable, MergeTexts, ServeTexts, TimetableTexts}
 
 same : (o : Option Text) (x y : Text) → o ≡ Some x → o ≡ Some y → x ≡ y
 same o x y is_x is_y = ap (λ p. unwrap_or p x) (sym is_x ∙ is_y)
@@ -42,6 +42,14 @@ same_boards (Some found) a b is_a is_b =
     let interpolate : a.interpolate ≡ b.interpolate = sym is_a.1.interpolate ∙ is_b.1.interpolate in
     λ i. record { dir = dir i; zone = zone i; requests = requests i; interpolate = interpolate i }
 
+pub same_serve : (found : Option (Text × List Row)) (a b : ServeTexts) → ForServe found a → ForServe found b → a ≡ b
+same_serve None a b is_a is_b = absurd is_a
+same_serve (Some found) a b is_a is_b =
+    let dir : a.dir ≡ b.dir = same _ a.dir b.dir is_a.1.dir is_b.1.dir in
+    let zone : a.zone ≡ b.zone = same _ a.zone b.zone is_a.1.zone is_b.1.zone in
+    let interpolate : a.interpolate ≡ b.interpolate = sym is_a.1.interpolate ∙ is_b.1.interpolate in
+    λ i. record { dir = dir i; zone = zone i; interpolate = interpolate i }
+
 pub same_timetable : (found : Option (Text × List Row)) (a b : TimetableTexts) → ForTimetable found a → ForTimetable found b → a ≡ b
 same_timetable None a b is_a is_b = absurd is_a
 same_timetable (Some found) a b is_a is_b =
@@ -70,6 +78,9 @@ one_board words a b is_a is_b = same_board _ a b is_a.asks is_b.asks
 
 pub one_boards : (words : List Text) (a b : BoardsTexts) → AsksBoardsOf words a → AsksBoardsOf words b → a ≡ b
 one_boards words a b is_a is_b = same_boards _ a b is_a.asks is_b.asks
+
+pub one_serve : (words : List Text) (a b : ServeTexts) → AsksServeOf words a → AsksServeOf words b → a ≡ b
+one_serve words a b is_a is_b = same_serve _ a b is_a.asks is_b.asks
 
 pub one_timetable : (words : List Text) (a b : TimetableTexts) → AsksTimetableOf words a → AsksTimetableOf words b → a ≡ b
 one_timetable words a b is_a is_b = same_timetable _ a b is_a.asks is_b.asks

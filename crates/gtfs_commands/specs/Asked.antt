@@ -8,8 +8,9 @@ use Rattle.gtfs_commands.specs.CommandLine.{gtfs_app}
 use Rattle.gtfs_commands.specs.declared.command.BoardTexts.{BoardTexts as LentBoardTexts}
 use Rattle.gtfs_commands.specs.declared.command.BoardsTexts.{BoardsTexts as LentBoardsTexts}
 use Rattle.gtfs_commands.specs.declared.command.Command.{Command}
-use Rattle.gtfs_commands.specs.declared.command.Command.TheVariants.{Board, Boards, Check, Merge, Timetable}
+use Rattle.gtfs_commands.specs.declared.command.Command.TheVariants.{Board, Boards, Check, Merge, Serve, Timetable}
 use Rattle.gtfs_commands.specs.declared.command.MergeTexts.{MergeTexts as LentMergeTexts}
+use Rattle.gtfs_commands.specs.declared.command.ServeTexts.{ServeTexts as LentServeTexts}
 use Rattle.gtfs_commands.specs.declared.command.TimetableTexts.{TimetableTexts as LentTimetableTexts}
 
 -- ---- the texts of each command, as they stand in the words
@@ -30,6 +31,12 @@ pub record BoardsTexts : Type 0 where
   pub dir : Text
   pub zone : Text
   pub requests : Text
+  pub interpolate : Bool
+
+-- what is given to `serve`; the last says whether its flag is given
+pub record ServeTexts : Type 0 where
+  pub dir : Text
+  pub zone : Text
   pub interpolate : Bool
 
 -- what is given to `timetable`; a direction may be missing, and the last says whether its flag is given
@@ -67,6 +74,9 @@ boards_texts_of words = record {
   requests = words.requests.now;
   interpolate = words.interpolate;
 }
+
+abbrev pub serve_texts_of : LentServeTexts → ServeTexts
+serve_texts_of words = record { dir = words.dir.now; zone = words.zone.now; interpolate = words.interpolate }
 
 abbrev pub timetable_texts_of : LentTimetableTexts → TimetableTexts
 timetable_texts_of words = record {
@@ -119,6 +129,12 @@ pub record GivesBoards (given : List Row) (asked : BoardsTexts) : Type 0 where
   pub requests : first_of (codes "requests") given ≡ Some asked.requests
   pub interpolate : is_flagged (codes "interpolate") given ≡ asked.interpolate
 
+-- each is the text that was given for it; the flag is told as it was given
+pub record GivesServe (given : List Row) (asked : ServeTexts) : Type 0 where
+  pub dir : first_of (codes "DIR") given ≡ Some asked.dir
+  pub zone : first_of (codes "zone") given ≡ Some asked.zone
+  pub interpolate : is_flagged (codes "interpolate") given ≡ asked.interpolate
+
 -- each is the text that was given for it, and None where none was given; the flag is told as it was given
 pub record GivesTimetable (given : List Row) (asked : TimetableTexts) : Type 0 where
   pub dir : first_of (codes "DIR") given ≡ Some asked.dir
@@ -152,6 +168,11 @@ abbrev pub ForBoards : Option (Text × List Row) → BoardsTexts → Type 0
 ForBoards None asked = ⊥
 ForBoards (Some found) asked = (found.0 ≡ codes "boards") × GivesBoards found.1 asked
 
+-- it is `serve` with these texts
+abbrev pub ForServe : Option (Text × List Row) → ServeTexts → Type 0
+ForServe None asked = ⊥
+ForServe (Some found) asked = (found.0 ≡ codes "serve") × GivesServe found.1 asked
+
 -- it is the timetable of these texts
 abbrev pub ForTimetable : Option (Text × List Row) → TimetableTexts → Type 0
 ForTimetable None asked = ⊥
@@ -168,6 +189,7 @@ IsCommandOf None command = ⊥
 IsCommandOf (Some found) (Check dir) = (found.0 ≡ codes "check") × GivesCheck found.1 dir.now
 IsCommandOf (Some found) (Board words) = (found.0 ≡ codes "board") × GivesBoard found.1 (texts_of words)
 IsCommandOf (Some found) (Boards words) = (found.0 ≡ codes "boards") × GivesBoards found.1 (boards_texts_of words)
+IsCommandOf (Some found) (Serve words) = (found.0 ≡ codes "serve") × GivesServe found.1 (serve_texts_of words)
 IsCommandOf (Some found) (Timetable words) = (found.0 ≡ codes "timetable") × GivesTimetable found.1 (timetable_texts_of words)
 IsCommandOf (Some found) (Merge words) = (found.0 ≡ codes "merge") × GivesMerge found.1 (merge_texts_of words)
 
@@ -185,6 +207,11 @@ pub record AsksBoardOf (words : List Text) (asked : BoardTexts) : Type 0 where
 pub record AsksBoardsOf (words : List Text) (asked : BoardsTexts) : Type 0 where
   pub taken : takes gtfs_app words ≡ true
   pub asks : ForBoards (subcommand_of gtfs_app words) asked
+
+-- `clap` takes the words, and they ask to serve requests with these texts
+pub record AsksServeOf (words : List Text) (asked : ServeTexts) : Type 0 where
+  pub taken : takes gtfs_app words ≡ true
+  pub asks : ForServe (subcommand_of gtfs_app words) asked
 
 -- `clap` takes the words, and they ask for the timetable of these texts
 pub record AsksTimetableOf (words : List Text) (asked : TimetableTexts) : Type 0 where
@@ -216,6 +243,11 @@ pub record HasBoards (given : List Row) : Type 0 where
   pub zone : IsSome (first_of (codes "zone") given)
   pub requests : IsSome (first_of (codes "requests") given)
 
+-- a text was given for each id that `serve` needs
+pub record HasServe (given : List Row) : Type 0 where
+  pub dir : IsSome (first_of (codes "DIR") given)
+  pub zone : IsSome (first_of (codes "zone") given)
+
 -- a text was given for each id that `timetable` needs
 pub record HasTimetable (given : List Row) : Type 0 where
   pub dir : IsSome (first_of (codes "DIR") given)
@@ -232,5 +264,5 @@ pub record HasMerge (given : List Row) : Type 0 where
 abbrev pub IsWhole : Option (Text × List Row) → Type 0
 IsWhole None = ⊥
 IsWhole (Some found) = ((found.0 ≡ codes "check") × HasCheck found.1) ⊎ (((found.0 ≡ codes "board") × HasBoard found.1)
-    ⊎ (((found.0 ≡ codes "boards") × HasBoards found.1) ⊎ (((found.0 ≡ codes "timetable") × HasTimetable found.1)
-    ⊎ ((found.0 ≡ codes "merge") × HasMerge found.1))))
+    ⊎ (((found.0 ≡ codes "boards") × HasBoards found.1) ⊎ (((found.0 ≡ codes "serve") × HasServe found.1)
+    ⊎ (((found.0 ≡ codes "timetable") × HasTimetable found.1) ⊎ ((found.0 ≡ codes "merge") × HasMerge found.1)))))

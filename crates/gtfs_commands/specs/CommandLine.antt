@@ -43,6 +43,11 @@ abbrev pub boards_app : App
 boards_app = with_rule (with_rule (with_rule (with_rule (new_app (codes "boards")) (word_rule (codes "DIR")))
     (option_rule (codes "zone"))) (option_rule (codes "requests"))) (flag_rule (codes "interpolate"))
 
+-- `serve DIR --zone FILE [--interpolate]`
+abbrev pub serve_app : App
+serve_app = with_rule (with_rule (with_rule (new_app (codes "serve")) (word_rule (codes "DIR"))) (option_rule (codes "zone")))
+    (flag_rule (codes "interpolate"))
+
 -- `timetable DIR --route ID --date D [--direction 0|1] [--interpolate]`
 abbrev pub timetable_app : App
 timetable_app = with_rule (with_rule (with_rule (with_rule (with_rule (new_app (codes "timetable"))
@@ -65,4 +70,4 @@ gtfs_top = record (new_app (codes "gtfs")) {
 }
 
 abbrev pub gtfs_app : App
-gtfs_app = with_subcommand (with_subcommand (with_subcommand (with_subcommand (with_subcommand gtfs_top check_app.top) board_app.top) boards_app.top) timetable_app.top) merge_app.top
+gtfs_app = with_subcommand (with_subcommand (with_subcommand (with_subcommand (with_subcommand (with_subcommand gtfs_top check_app.top) board_app.top) boards_app.top) serve_app.top) timetable_app.top) merge_app.top

@@ -3,7 +3,7 @@
 
 -- ---- `read_words`: how the program is called, as `clap` is told
 
--- the program with its five commands
+-- the program with its six commands
 pub use Rattle.gtfs_commands.specs.CommandLine.{gtfs_app}
 -- `check` and its folder
 pub use Rattle.gtfs_commands.specs.CommandLine.{check_app}
@@ -11,6 +11,8 @@ pub use Rattle.gtfs_commands.specs.CommandLine.{check_app}
 pub use Rattle.gtfs_commands.specs.CommandLine.{board_app}
 -- `boards`, its folder and its options
 pub use Rattle.gtfs_commands.specs.CommandLine.{boards_app}
+-- `serve`, its folder and its options
+pub use Rattle.gtfs_commands.specs.CommandLine.{serve_app}
 -- `timetable`, its folder and its options
 pub use Rattle.gtfs_commands.specs.CommandLine.{timetable_app}
 -- `merge`, its three folders and its options
@@ -33,6 +35,12 @@ pub use Rattle.gtfs_commands.specs.Asked.{BoardsTexts}
 pub use Rattle.gtfs_commands.specs.Asked.{boards_texts_of}
 -- each of them is the text that was given for it
 pub use Rattle.gtfs_commands.specs.Asked.{GivesBoards}
+-- the texts of `serve`, and its flag
+pub use Rattle.gtfs_commands.specs.Asked.{ServeTexts}
+-- the same of the command that the code has
+pub use Rattle.gtfs_commands.specs.Asked.{serve_texts_of}
+-- each of them is the text that was given for it
+pub use Rattle.gtfs_commands.specs.Asked.{GivesServe}
 -- the texts of `timetable`, of which a direction may be missing, and its flag
 pub use Rattle.gtfs_commands.specs.Asked.{TimetableTexts}
 -- the same of the command that the code has
@@ -53,6 +61,8 @@ pub use Rattle.gtfs_commands.specs.Asked.{AsksCheckOf}
 pub use Rattle.gtfs_commands.specs.Asked.{AsksBoardOf}
 -- the same of the boards of these texts
 pub use Rattle.gtfs_commands.specs.Asked.{AsksBoardsOf}
+-- the same of serving with these texts
+pub use Rattle.gtfs_commands.specs.Asked.{AsksServeOf}
 -- the same of the timetable of these texts
 pub use Rattle.gtfs_commands.specs.Asked.{AsksTimetableOf}
 -- the same of the merge of these texts

@@ -9,6 +9,8 @@ pub enum Command<'w> {
     Board(BoardTexts<'w>),
     /// `gtfs boards`: the departures that each line of a file asks for.
     Boards(BoardsTexts<'w>),
+    /// `gtfs serve`: an answer to each request, as it comes in.
+    Serve(ServeTexts<'w>),
     /// `gtfs timetable`: the runs of a route on a date.
     Timetable(TimetableTexts<'w>),
     /// `gtfs merge`: one feed of two.
@@ -47,6 +49,18 @@ pub struct BoardsTexts<'w> {
     pub zone: &'w str,
     /// The file of the requests, one a line.
     pub requests: &'w str,
+    /// Whether stop times without times of their own get times between those that have them.
+    pub interpolate: bool,
+}
+
+/// What was given to `gtfs serve`:
+/// each text as it stands in the words, and whether the flag stands there.
+#[derive(Clone, Copy)]
+pub struct ServeTexts<'w> {
+    /// The folder of the feed.
+    pub dir: &'w str,
+    /// The file of the time zone.
+    pub zone: &'w str,
     /// Whether stop times without times of their own get times between those that have them.
     pub interpolate: bool,
 }

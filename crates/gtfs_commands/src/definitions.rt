@@ -8,6 +8,7 @@ mod boards;
 mod check;
 mod merge;
 mod rules;
+mod serve;
 mod timetable;
 
 use crate::fault::OutOfMemory;
@@ -17,6 +18,7 @@ use check::check_command;
 use clap::Command;
 use merge::merge_command;
 use rules::described;
+use serve::serve_command;
 use std::alloc::Global;
 use timetable::timetable_command;
 
@@ -31,6 +33,7 @@ const ABOUT: &str =
 const COMMANDS: &str = "gtfs check DIR\n       \
     gtfs board DIR --zone FILE --stop ID --from T --until T [--limit N] [--after KEY] [--interpolate]\n       \
     gtfs boards DIR --zone FILE --requests FILE [--interpolate]\n       \
+    gtfs serve DIR --zone FILE [--interpolate]\n       \
     gtfs timetable DIR --route ID --date D [--direction 0|1] [--interpolate]\n       \
     gtfs merge A B OUT [--near N] [--cutoff D]";
 
@@ -42,7 +45,8 @@ pub(super) fn gtfs<'w>(alloc: Global) -> Result<Command<'w>, OutOfMemory>
     let checks = with_command(top(alloc), check_command(alloc))?;
     let single = with_command(checks, board_command(alloc))?;
     let boards = with_command(single, boards_command(alloc))?;
-    let timetables = with_command(boards, timetable_command(alloc))?;
+    let serving = with_command(boards, serve_command(alloc))?;
+    let timetables = with_command(serving, timetable_command(alloc))?;
     with_command(timetables, merge_command(alloc))
 }
 

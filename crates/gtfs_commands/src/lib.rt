@@ -4,6 +4,7 @@
 //! gtfs check DIR
 //! gtfs board DIR --zone FILE --stop ID --from T --until T [--limit N] [--after KEY] [--interpolate]
 //! gtfs boards DIR --zone FILE --requests FILE [--interpolate]
+//! gtfs serve DIR --zone FILE [--interpolate]
 //! gtfs timetable DIR --route ID --date D [--direction 0|1] [--interpolate]
 //! gtfs merge A B OUT [--near N] [--cutoff D]
 //! ```
@@ -26,7 +27,7 @@ mod fault;
 mod law;
 mod read;
 
-pub use command::{BoardTexts, BoardsTexts, Command, MergeTexts, TimetableTexts};
+pub use command::{BoardTexts, BoardsTexts, Command, MergeTexts, ServeTexts, TimetableTexts};
 pub use fault::WordsFault;
 pub use law::words_ask_for_one;
 pub use read::read_words;

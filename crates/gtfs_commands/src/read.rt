@@ -1,11 +1,11 @@
 //! From the words to the command.
 ghost use Rattle.std.specs.Prelude.{◌≡◌, map, Some, option_map, true, IfOk, IfErr, IfSome, IsSome};
 ghost use Rattle.clap.specs.Words.{first_of, found_of, rows_of, subcommand_of, subcommand_rows_of, takes};
-ghost use Rattle.gtfs_commands.specs.Asked.{boards_texts_of, is_flagged, is_from_words, merge_texts_of, texts_of, timetable_texts_of, HasBoard, HasBoards, HasMerge, HasTimetable, GivesBoard, GivesBoards, IsCommandOf, GivesMerge, GivesTimetable, IsWhole};
+ghost use Rattle.gtfs_commands.specs.Asked.{boards_texts_of, is_flagged, is_from_words, merge_texts_of, serve_texts_of, texts_of, timetable_texts_of, HasBoard, HasBoards, HasMerge, HasServe, HasTimetable, GivesBoard, GivesBoards, IsCommandOf, GivesMerge, GivesServe, GivesTimetable, IsWhole};
 ghost use Rattle.gtfs_commands.specs.CommandLine.{gtfs_app};
 ghost use Rattle.gtfs_commands.specs.Untaken.{no_memory, IsFaultOf};
 
-use crate::command::{BoardTexts, BoardsTexts, Command, MergeTexts, TimetableTexts};
+use crate::command::{BoardTexts, BoardsTexts, Command, MergeTexts, ServeTexts, TimetableTexts};
 use crate::definitions::gtfs;
 use crate::fault::{WordsFault, fault_of};
 use clap::ArgMatches;
@@ -50,6 +50,7 @@ fn command_named<'w>(name: &str, given: &ArgMatches<'w>) -> Option<Command<'w>>
         "check" => Some(Command::Check(given_text(given, "DIR")?)),
         "board" => Some(Command::Board(board_words(given)?)),
         "boards" => Some(Command::Boards(boards_words(given)?)),
+        "serve" => Some(Command::Serve(serve_words(given)?)),
         "timetable" => Some(Command::Timetable(timetable_words(given)?)),
         "merge" => Some(Command::Merge(merge_words(given)?)),
         _ => None,
@@ -82,6 +83,18 @@ fn boards_words<'w>(given: &ArgMatches<'w>) -> Option<BoardsTexts<'w>>
         dir: given_text(given, "DIR")?,
         zone: given_text(given, "zone")?,
         requests: given_text(given, "requests")?,
+        interpolate: is_flagged(given, "interpolate"),
+    })
+}
+
+fn serve_words<'w>(given: &ArgMatches<'w>) -> Option<ServeTexts<'w>>
+    ensures value { IfSome result (λ words. GivesServe (rows_of (found_of given.now))
+        (serve_texts_of words)) }
+    ensures given { HasServe (rows_of (found_of given.now)) → IsSome result }
+{
+    Some(ServeTexts {
+        dir: given_text(given, "DIR")?,
+        zone: given_text(given, "zone")?,
         interpolate: is_flagged(given, "interpolate"),
     })
 }

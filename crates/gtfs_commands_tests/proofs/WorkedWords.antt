@@ -4,7 +4,7 @@ use Rattle.std.proofs.Common.{refl}
 use Rattle.clap.specs.Words.{Text, fault_of, takes}
 use Rattle.clap.specs.declared.error.kind.ErrorKind.TheVariants as kind
 use Rattle.clap.proofs.OnLiterals.{clap_on_literals}
-use Rattle.gtfs_commands.specs.Words.{gtfs_app, AreForHelp, AreForVersion, AreRefused, AsksBoardOf, AsksBoardsOf, AsksCheckOf, AsksMergeOf, AsksTimetableOf, BoardTexts, BoardsTexts, MergeTexts, TimetableTexts}
+use Rattle.gtfs_commands.specs.Words.{gtfs_app, AreForHelp, AreForVersion, AreRefused, AsksBoardOf, AsksBoardsOf, AsksCheckOf, AsksMergeOf, AsksServeOf, AsksTimetableOf, BoardTexts, BoardsTexts, MergeTexts, ServeTexts, TimetableTexts}
 
 -- a check
 abbrev check_words : List Text
@@ -78,6 +78,37 @@ without_requests_is = refl
 without_requests_not_taken : takes gtfs_app without_requests ≡ false
 unfolding clap_on_literals
 without_requests_not_taken = refl
+
+-- requests to be served
+abbrev serve_words : List Text
+serve_words = codes "gtfs" ∷ codes "serve" ∷ codes "--zone" ∷ codes "Z" ∷ codes "feed" ∷ []
+
+abbrev serve_texts : ServeTexts
+serve_texts = record { dir = codes "feed"; zone = codes "Z"; interpolate = false }
+
+serve_asked : AsksServeOf serve_words serve_texts
+unfolding clap_on_literals
+serve_asked = record { taken = refl; asks = (refl, record { dir = refl; zone = refl; interpolate = refl }) }
+
+-- the same with the flag
+abbrev flagged_serve : List Text
+flagged_serve = codes "gtfs" ∷ codes "serve" ∷ codes "feed" ∷ codes "--interpolate" ∷ codes "--zone=Z" ∷ []
+
+flagged_serve_asked : AsksServeOf flagged_serve (record serve_texts { interpolate = true })
+unfolding clap_on_literals
+flagged_serve_asked = record { taken = refl; asks = (refl, record { dir = refl; zone = refl; interpolate = refl }) }
+
+-- requests without a zone
+abbrev without_zone : List Text
+without_zone = codes "gtfs" ∷ codes "serve" ∷ codes "feed" ∷ []
+
+without_zone_is : fault_of gtfs_app without_zone ≡ kind.MissingRequiredArgument ∷ []
+unfolding clap_on_literals
+without_zone_is = refl
+
+without_zone_not_taken : takes gtfs_app without_zone ≡ false
+unfolding clap_on_literals
+without_zone_not_taken = refl
 
 -- a timetable of both directions
 abbrev timetable_words : List Text

@@ -1,6 +1,6 @@
 //! Words that ask for a command.
 
-use crate::asserts::assert_equal;
+use crate::asserts::{assert_equal, assert_equal_at};
 use gtfs_commands::{Command, read_words};
 use std::test::Fail;
 
@@ -75,6 +75,41 @@ fn boards_may_lack_the_flag(rt: HostRuntime) -> Result<(), Fail> {
     assert_equal(&rt, boards.zone, "");
     assert_equal(&rt, boards.requests, "r1");
     assert_equal(&rt, boards.interpolate, false);
+    Ok(())
+}
+
+// The words of `serve` in each order.
+const SERVES: &[&[&str]] = &[
+    &["gtfs", "serve", "f1", "--zone", "-", "--interpolate"],
+    &["gtfs", "serve", "f1", "--interpolate", "--zone=-"],
+    &["gtfs", "serve", "--zone=-", "f1", "--interpolate"],
+    &["gtfs", "serve", "--zone", "-", "--interpolate", "f1"],
+    &["gtfs", "serve", "--interpolate", "f1", "--zone", "-"],
+    &["gtfs", "serve", "--interpolate", "--zone=-", "f1"],
+];
+
+#[test]
+fn serve_has_all_that_is_given_in_each_order(rt: HostRuntime) -> Result<(), Fail> {
+    for &words in SERVES {
+        let Ok(Command::Serve(serve)) = read_words(rt.alloc(), words) else {
+            return Err("no serve".into());
+        };
+        assert_equal_at(&rt, words, serve.dir, "f1");
+        assert_equal_at(&rt, words, serve.zone, "-");
+        assert_equal_at(&rt, words, serve.interpolate, true);
+    }
+    Ok(())
+}
+
+#[test]
+fn serve_may_lack_the_flag(rt: HostRuntime) -> Result<(), Fail> {
+    let words = ["gtfs", "serve", "f1", "--zone", "z1"];
+    let Ok(Command::Serve(serve)) = read_words(rt.alloc(), &words) else {
+        return Err("no serve".into());
+    };
+    assert_equal(&rt, serve.dir, "f1");
+    assert_equal(&rt, serve.zone, "z1");
+    assert_equal(&rt, serve.interpolate, false);
     Ok(())
 }
 

@@ -45,6 +45,8 @@ const BOARD: &str =
 
 const BOARDS: &str = "gtfs boards DIR --zone FILE --requests FILE [--interpolate]\n";
 
+const SERVE: &str = "gtfs serve DIR --zone FILE [--interpolate]\n";
+
 const TIMETABLE: &str =
     "gtfs timetable DIR --route ID --date D [--direction 0|1] [--interpolate]\n";
 
@@ -52,7 +54,7 @@ const MERGE: &str = "gtfs merge A B OUT [--near N] [--cutoff D]\n";
 
 #[test]
 fn help_of_the_program_has_the_line_of_each_command(rt: HostRuntime) {
-    for line in ["gtfs check DIR", BOARD, BOARDS, TIMETABLE, MERGE] {
+    for line in ["gtfs check DIR", BOARD, BOARDS, SERVE, TIMETABLE, MERGE] {
         let found = helped(rt.alloc(), &["gtfs", "--help"], line);
         assert_equal_at(&rt, line, found, Ok(()));
     }
@@ -74,6 +76,8 @@ const EXAMPLES: &[(&[&str], &str)] = &[
         &["gtfs", "boards", "--help"],
         "a pipe, as /dev/stdin may be one, cannot be read",
     ),
+    (&["gtfs", "serve", "-h"], SERVE),
+    (&["gtfs", "serve", "f1", "--help"], "until the input ends"),
     (&["gtfs", "timetable", "-h"], "20240401"),
     (&["gtfs", "merge", "--help"], "S1_merged_1"),
     (
@@ -160,6 +164,14 @@ const REFUSED: &[&[&str]] = &[
         "--version",
     ],
     &["gtfs", "board", "f1", "--zone=z1", "--requests=r1"],
+    &["gtfs", "serve", "f1"],
+    &["gtfs", "serve", "--zone=z1"],
+    &["gtfs", "serve", "f1", "--zone"],
+    &["gtfs", "serve", "f1", "--zone=z1", "--zone=z1"],
+    &["gtfs", "serve", "f1", "f2", "--zone=z1"],
+    &["gtfs", "serve", "f1", "--zone=z1", "--requests=r1"],
+    &["gtfs", "serve", "f1", "--zone=z1", "--interpolate=true"],
+    &["gtfs", "serve", "f1", "--zone=z1", "--version"],
     &["gtfs", "timetable", "f1", "--route", "R1"],
     &["gtfs", "check", "f1", "--interpolate"],
     &[

@@ -53,6 +53,7 @@ impl Refusal<'_> {
             Refusal::ZonesDiffer => ("zones differ", ""),
             Refusal::MergeTooLarge => ("merged feed too large", ""),
             Refusal::Unwritable(path) => (path, " cannot be written"),
+            Refusal::InputFailed => ("input cannot be read", ""),
             Refusal::OutputFailed => ("output failed", ""),
             Refusal::OutOfMemory => ("out of memory", ""),
         }

@@ -36,6 +36,8 @@ pub(super) enum Refusal<'w> {
     MergeTooLarge,
     // The folder, or a file in it, cannot be written.
     Unwritable(&'w str),
+    // The input of requests cannot be read.
+    InputFailed,
     // The output did not take all that was to go out.
     OutputFailed,
     // Memory ran out.
@@ -81,6 +83,7 @@ impl Refusal<'_> {
             | Refusal::OverLimit(_)
             | Refusal::NoZone(_)
             | Refusal::Unwritable(_)
+            | Refusal::InputFailed
             | Refusal::OutputFailed => 3,
             Refusal::Line(fault) => fault.status(),
             Refusal::OutOfMemory => 4,

@@ -166,14 +166,14 @@ fn read_texts<'w>(line: &'w str) -> Option<RequestTexts<'w>>
 }
 
 // The field of a line at an index, if it has so many.
-fn field(line: &str, index: usize) -> Option<&str>
+pub(super) fn field(line: &str, index: usize) -> Option<&str>
     ensures { option_map (λ t. t.now) result ≡ slice_get (fields_of line.now) index }
 {
     line.split('\t').nth(index)
 }
 
 // An empty text is none.
-fn text_if_any(field: Option<&str>) -> Option<&str>
+pub(super) fn text_if_any(field: Option<&str>) -> Option<&str>
     ensures { option_map (λ t. t.now) result
         ≡ option_and_then text_if_any (option_map (λ t. t.now) field.entry) }
 {

@@ -1,4 +1,6 @@
+ghost use Rattle.std.specs.Prelude.{◌≡◌, IfErr};
 ghost use Rattle.gtfs_cli.specs.Sending.{IsSent};
+ghost use Rattle.gtfs_cli.specs.declared.commands.refusal.Refusal.TheVariants.{OutputFailed as output_failed};
 
 use crate::commands::refusal::Refusal;
 use crate::seen::OutSeen;
@@ -9,6 +11,7 @@ use gtfs_table::{Out, write_text};
 pub(super) fn send<'w, O: Out>(text: &[u8], out: &mut O) -> Result<(), Refusal<'w>>
     ensures sent { IsSent text.now (⟦<O as OutSeen>⟧.seen out.old)
         (⟦<O as OutSeen>⟧.seen out.new) result }
+    ensures failed { IfErr result (λ refusal. refusal ≡ output_failed) }
 {
     match write_text(out, text) {
         Ok(()) => Ok(()),

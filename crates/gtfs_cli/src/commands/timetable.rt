@@ -1,4 +1,5 @@
-ghost use Rattle.std.specs.Prelude.{◌≡◌, map, true, IfErr, IfOk, OnOk};
+ghost use Rattle.std.specs.Prelude.{◌≡◌, map, true, IfErr, IfOk, IsErrOf, OnOk};
+ghost use Rattle.std.specs.Io.KnownBytes.{Keeps};
 ghost use Rattle.std.specs.List.{flat_map};
 ghost use Rattle.gtfs_rows.specs.Views.{content_of_parts};
 ghost use Rattle.gtfs_times.specs.Filling.{timed};
@@ -6,8 +7,9 @@ ghost use Rattle.gtfs_board.specs.LentSheets.{plain_sheet};
 ghost use Rattle.gtfs_board.specs.Timetable.{is_route, sheet_text, sheets};
 ghost use Rattle.gtfs_commands.specs.Words.{timetable_texts_of};
 ghost use Rattle.gtfs_cli.specs.Plan.{answer_of, Ends};
-ghost use Rattle.gtfs_cli.specs.Sending.{or_none, Begins, IsSent, PrintsText};
-ghost use Rattle.gtfs_cli.specs.Timetables.{timetable_plan, timetable_request_of, AreSheets, IsSheetsCause};
+ghost use Rattle.gtfs_cli.specs.Sending.{AreFirst, Begins, IsSent, PrintsText, SendsSome};
+ghost use Rattle.gtfs_cli.specs.Timetables.{timetable_plan, timetable_request_of, AreFirstSheets, AreSheets, IsSheetsCause};
+ghost use Rattle.gtfs_cli.specs.declared.commands.refusal.Refusal.TheVariants.{OutOfMemory as no_memory};
 
 use crate::commands::feed::read_feed;
 use crate::commands::refusal::Refusal;
@@ -41,7 +43,7 @@ pub(super) fn print_timetable<'w, F: Folders, O: Out>(
 }
 
 // Prints the timetable of a route of a feed.
-fn print_sheets<'w, O: Out>(
+pub(super) fn print_sheets<'w, O: Out>(
     alloc: Global,
     feed: &Feed,
     route: &str,
@@ -50,7 +52,7 @@ fn print_sheets<'w, O: Out>(
 ) -> Result<(), Refusal<'w>>
     ensures { let f = content_of_parts feed.now in let r = timetable_request_of values.now in PrintsText
         (AreSheets f route.now r) (Begins (AreSheets f route.now r))
-        (or_none (Begins (AreSheets f route.now r))) (IsSheetsCause f route.now)
+        (AreFirstSheets f route.now r) (IsSheetsCause f route.now)
         (⟦<O as OutSeen>⟧.seen out.old) (⟦<O as OutSeen>⟧.seen out.new) result }
 {
     let sheets = sheets_of(alloc, feed, route, values)?;
@@ -92,6 +94,8 @@ fn send_sheets<'w, O: Out>(
 ) -> Result<(), Refusal<'w>>
     ensures sent { IsSent (flat_map sheet_text (map plain_sheet sheets.now))
         (⟦<O as OutSeen>⟧.seen out.old) (⟦<O as OutSeen>⟧.seen out.new) result }
+    ensures stopped { IsErrOf result no_memory → SendsSome (AreFirst sheet_text (map plain_sheet sheets.now))
+        (⟦<O as OutSeen>⟧.seen out.old) (⟦<O as OutSeen>⟧.seen out.new) }
 {
     let mut text = String::new(alloc);
     for sheet in sheets {
@@ -109,6 +113,7 @@ fn send_sheet<'w, O: Out>(
 ) -> Result<(), Refusal<'w>>
     ensures sent { IsSent (sheet_text (plain_sheet sheet.now)) (⟦<O as OutSeen>⟧.seen out.old)
         (⟦<O as OutSeen>⟧.seen out.new) result }
+    ensures nothing { IsErrOf result no_memory → Keeps (O.told out.old) (O.told out.new) }
 {
     text.clear();
     push_sheet(alloc, text, sheet)?;

@@ -44,7 +44,7 @@ pub(super) fn read_timetable_values<'w>(
 }
 
 // Reads the value of `--direction`, exactly 0 or 1. None where it is neither.
-fn read_direction(text: Option<&str>) -> Option<Option<u8>>
+pub(super) fn read_direction(text: Option<&str>) -> Option<Option<u8>>
     ensures { result ≡ direction_of (option_map (λ t. t.now) text.entry) }
 {
     match text {

@@ -1,23 +1,13 @@
-use Rattle.std.proofs.Common.{map}
-use Rattle.gtfs_cli.proofs.AskedOne.{asks-some}
-use Rattle.gtfs_cli.proofs.Ended.{failed-nowhere, statuses-ended}
 use Rattle.gtfs_cli.proofs.commands.run.Goals as goal
 
 pub returns-clause-asks : goal.returns-clause-asks
-returns-clause-asks g c = asks-some (map g.S.AsStr.text c.args.words.now)
+returns-clause-asks g c = c.run_with_input.ensures.asks
 
 pub returns-clause-ends : goal.returns-clause-ends
-returns-clause-ends g c = λ asked asks. record {
-  ended = c.command-ended.result;
-  ends = c.command-ended.ensures asked asks;
-  gives = c.finish.ensures.status;
-  line = c.finish.ensures.told;
-}
+returns-clause-ends g c = c.run_with_input.ensures.ends
 
 pub returns-clause-statuses : goal.returns-clause-statuses
-returns-clause-statuses g c = statuses-ended c.command-ended.result c.finish.result c.finish.ensures.status
+returns-clause-statuses g c = c.run_with_input.ensures.statuses
 
 pub returns-clause-no_failure : goal.returns-clause-no_failure
-returns-clause-no_failure g c =
-    let asked = asks-some (map g.S.AsStr.text c.args.words.now) in
-    failed-nowhere _ _ _ c.command-ended.result c.finish.result c.finish.ensures.status (c.command-ended.ensures asked.0 asked.1)
+returns-clause-no_failure g c = c.run_with_input.ensures.no_failure

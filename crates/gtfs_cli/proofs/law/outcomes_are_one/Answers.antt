@@ -9,5 +9,5 @@ pub returns-clause-asked : goal.returns-clause-asked
 returns-clause-asked c = one-asked
 
 pub returns-clause-outcome : goal.returns-clause-outcome
-returns-clause-outcome c = λ limit store words asked x y taken asks.
-    one-outcome (plan_of limit (Some store) words asked) (Some store) (one-command limit store words asked taken asks) x y
+returns-clause-outcome c = λ limit store talk words asked x y taken asks quiet.
+    one-outcome (plan_of limit (Some store) talk words asked) (Some store) (one-command limit store talk words asked taken asks quiet) x y

@@ -5,5 +5,5 @@ use Rattle.gtfs_cli.proofs.OneOutcome.{run-ends}
 use Rattle.gtfs_cli.proofs.law.runs_end_with_outcomes.Goals as goal
 
 pub returns : goal.returns
-returns c = λ limit store words asked before after err told status taken asks free.
-    run-ends (plan_of limit (Some store) words asked) (Some store) (one-command limit store words asked taken asks) before after err told status free
+returns c = λ limit store talk words asked before after err told status taken asks quiet free.
+    run-ends (plan_of limit (Some store) talk words asked) (Some store) (one-command limit store talk words asked taken asks quiet) before after err told status free

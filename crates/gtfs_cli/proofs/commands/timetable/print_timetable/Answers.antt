@@ -5,11 +5,11 @@ use Rattle.gtfs_cli.specs.Plan.{Ends}
 use Rattle.gtfs_cli.specs.Refusals.{IsReadingCause}
 use Rattle.gtfs_cli.specs.Sending.{Begins}
 use Rattle.gtfs_cli.specs.TimetableOptions.{judged_timetable}
-use Rattle.gtfs_cli.specs.Timetables.{timetable_judges, timetable_plan, timetable_request_of, IsTimetableText}
+use Rattle.gtfs_cli.specs.Timetables.{timetable_judges, timetable_plan, timetable_request_of, IsTimetablePart, IsTimetableText}
 use Rattle.gtfs_cli.specs.declared.commands.refusal.Refusal.{Refusal}
 use Rattle.gtfs_cli.proofs.Plans.{ends-printed, err-up, prints-none}
 use Rattle.gtfs_cli.proofs.ReadsThen.{asks-done, asks-none}
-use Rattle.gtfs_cli.proofs.Tabled.{cause-of, none-bad-timetable, part-of, text-of}
+use Rattle.gtfs_cli.proofs.Tabled.{cause-of, none-bad-timetable, part-of, stopped-of, text-of}
 use Rattle.gtfs_cli.proofs.commands.timetable.print_timetable.Goals as goal
 
 pub returns-in_err-values : goal.returns-in_err-values
@@ -45,8 +45,8 @@ returns g c =
     let reads = c.in_ok-feed.ensures.reads in
     let feed = c.in_ok-feed.ensures.read in
     let is = c.in_ok-values.ensures.read in
-    ends-printed _ _ _ _ (timetable_judges limit held asked) (IsTimetableText limit held asked) (Begins (IsTimetableText limit held asked)) (Begins (IsTimetableText limit held asked))
+    ends-printed _ _ _ _ (timetable_judges limit held asked) (IsTimetableText limit held asked) (Begins (IsTimetableText limit held asked)) (IsTimetablePart limit held asked)
     _ _ _ _ 10 (text-of limit held asked c.in_ok-feed.feed request feed is) (part-of limit held asked c.in_ok-feed.feed request feed is)
-    (λ t h. elim h [ inl none ↦ inl none | inr begun ↦ inr (part-of limit held asked c.in_ok-feed.feed request feed is t begun) ])
+    (λ t h. inr (stopped-of limit held asked c.in_ok-feed.feed request feed is t h))
     (cause-of limit held asked c.in_ok-feed.feed request feed is _ _) reads.unchanged c.print_sheets.result (asks-done 10 _ _ c.in_ok-feed.feed c.print_sheets.result reads.asks)
     c.print_sheets.ensures

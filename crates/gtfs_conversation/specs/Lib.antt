@@ -1,0 +1,4 @@
+pub mod Conversation
+pub mod Lines
+pub mod Reading
+pub mod Script

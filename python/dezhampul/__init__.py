@@ -1,0 +1,22 @@
+"""Departures, timetables, checks and merges of GTFS feeds, by the program `gtfs`.
+
+    with dezhampul.Feed("feed") as feed:
+        for departure in feed.next("HAR", count=10):
+            print(departure.time, departure.route, departure.headsign)
+
+The program answers. This package starts it, asks it, and makes objects of its lines.
+"""
+from .departures import Departure
+from .faults import (
+    BrokenProcess, DeviceFault, HasErrors, NoProgram, NoZone, OutOfMemory, Refused, UnknownRoute, UnknownStop,
+)
+from .feed import Feed
+from .merges import Merged, Renamed, merge
+from .reports import Problem, Report, check
+from .sheets import Sheet
+from .version import VERSION as __version__
+
+__all__ = [
+    "BrokenProcess", "Departure", "DeviceFault", "Feed", "HasErrors", "Merged", "NoProgram", "NoZone", "OutOfMemory", "Problem", "Refused",
+    "Renamed", "Report", "Sheet", "UnknownRoute", "UnknownStop", "__version__", "check", "merge",
+]

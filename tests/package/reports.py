@@ -1,0 +1,100 @@
+"""Checks and merges."""
+import os
+import pickle
+from datetime import date
+
+import dezhampul
+from made import FEEDS, Case, answer, example, gtfs, make_feed, put
+
+COUNTS = ["agency", "stop", "route", "service", "trip"]
+
+
+def text_of_report(report):
+    """The text of a report."""
+    lines = [f"{each.code} {each.file}:{each.row} {'-' if each.column is None else each.column} {each.text}" for each in report.problems]
+    return "".join(f"{line}\n" for line in [*lines, f"errors {report.errors} warnings {report.warnings}"])
+
+
+def text_of_merge(merged):
+    """The text of a merge."""
+    lines = ["\t".join((each.side, each.kind, each.old, each.new)) for each in merged.renamed]
+    lines += [f"joined {kind} {merged.joined[kind]}" for kind in COUNTS]
+    lines += [] if merged.near is None else [f"near stop {merged.near}"]
+    return "".join(f"{line}\n" for line in lines)
+
+
+class Checks(Case):
+    def test_examples(self):
+        """the reports on all examples are the program's"""
+        for name in (*FEEDS, "broken"):
+            self.assertEqual(text_of_report(dezhampul.check(example(name))), gtfs("check", example(name))[1])
+
+    def test_by_hand(self):
+        """a report has its counts and its problems"""
+        report = dezhampul.check(example("broken"))
+        self.assertEqual((report.errors, report.warnings, len(report.problems)), (6, 2, 8))
+        self.assertEqual(report.problems[1], dezhampul.Problem("E07", "stops.txt", 4, "stop_lat", "value unreadable", None))
+        self.assertEqual(report.problems[7], dezhampul.Problem("W03", "calender_dates.txt", 0, None, "file not kept"))
+
+    def test_odd_names(self):
+        """names of files and columns that are not kept may have spaces, colons, dashes and nothing at all"""
+        columns = ["-", "a b", "a:1 - column not kept", "stop_id2", "\u00e6"]
+        folder = make_feed(self.path("odd"), stops=",".join(["stop_id,stop_name,stop_lat,stop_lon", *columns, '""']) + "\n")
+        for name in ("a b.txt", "a:0 - file not kept", "W04 stops.txt:1 x column not kept"):
+            put(os.path.join(folder, name), "")
+        status, text, _ = gtfs("check", folder)
+        report = dezhampul.check(folder)
+        self.assertEqual(text_of_report(report), text)
+        self.assertEqual(sorted(each.file for each in report.problems if each.code == "W03"),
+                         ["W04 stops.txt:1 x column not kept", "a b.txt", "a:0 - file not kept"])
+        named = [each.column for each in report.problems if each.code == "W04"]
+        self.assertTrue(set(columns) <= set(named), named)
+        self.assertEqual(report.errors > 0, status == 1)
+
+    def test_faults(self):
+        """a folder that is not there, and one that is none"""
+        for path, how in ((self.path("none"), "is not there"), (os.path.join(example("f1"), "stops.txt"), "cannot be read")):
+            with self.refused(dezhampul.DeviceFault, 3, f"{path} {how}"):
+                dezhampul.check(path)
+        with self.refused(dezhampul.Refused, 2, "bad words"):
+            dezhampul.check(b"\xff")
+        self.assertRaises(ValueError, dezhampul.check, "a\0b")
+
+
+class Merges(Case):
+    def test_examples(self):
+        """merges tell what the program tells, also with near stops and with a cutoff"""
+        for number, (words, how) in enumerate([
+            ([], {}), (["--near", "100"], {"near": 100}), (["--cutoff", "20240601"], {"cutoff": date(2024, 6, 1)}),
+            (["--near=0", "--cutoff=20240601"], {"near": 0, "cutoff": date(2024, 6, 1)}),
+        ]):
+            text = answer("merge", example("ferry"), example("tram"), self.path(f"{number}a"), *words)
+            merged = dezhampul.merge(example("ferry"), example("tram"), self.path(f"{number}b"), **how)
+            self.assertEqual(text_of_merge(merged), text)
+            self.assertEqual(sorted(os.listdir(self.path(f"{number}a"))), sorted(os.listdir(self.path(f"{number}b"))))
+        self.assertEqual(merged.renamed[0].side, "B")
+        self.assertEqual(dezhampul.check(self.path("0b")), dezhampul.Report(0, 0, ()))
+
+    def test_by_hand(self):
+        """a merge has what was renamed, and counts"""
+        merged = dezhampul.merge(example("ferry"), example("tram"), self.path("out"), near=100)
+        self.assertEqual(merged, dezhampul.Merged(
+            renamed=(dezhampul.Renamed("B", "route", "1", "1_merged_1"), dezhampul.Renamed("B", "trip", "T1", "T1_merged_1")),
+            joined={"agency": 1, "stop": 2, "route": 1, "service": 1, "trip": 2}, near=1))
+        hash(merged)
+
+    def test_faults(self):
+        """a merge is refused with the report of the feed that has errors, and for other reasons"""
+        for feeds in ((example("broken"), example("f1")), (example("f1"), example("broken")), (example("broken"),) * 2):
+            with self.refused(dezhampul.HasErrors, 1, f"{example('broken')} has errors") as raised:
+                dezhampul.merge(*feeds, self.path("out"))
+            self.assertEqual(raised.exception.report, dezhampul.check(example("broken")))
+            again = pickle.loads(pickle.dumps(raised.exception))
+            self.assertEqual((again.report, str(again)), (raised.exception.report, str(raised.exception)))
+        with self.refused(dezhampul.Refused, 1, "zones differ"):
+            dezhampul.merge(example("f1"), example("ferry"), self.path("out"))
+        with self.refused(dezhampul.Refused, 2, "bad value of --near"):
+            dezhampul.merge(example("f1"), example("f1"), self.path("out"), near=2**31)
+        with self.refused(dezhampul.DeviceFault, 3, f"{self.path('none')} is not there"):
+            dezhampul.merge(example("f1"), self.path("none"), self.path("out"))
+        self.assertEqual(os.listdir(self.room), [])
