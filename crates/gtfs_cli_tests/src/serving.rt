@@ -170,11 +170,14 @@ fn no_lines_have_no_answers(rt: HostRuntime) -> Result<(), Fail> {
     assert_ends(&rt, rt.alloc(), &mut folders, &SERVE, (0, "", ""))
 }
 
+// The bytes of a line beside the id of its stop.
+const BESIDE_ID: usize = 12;
+
 // A line of this many bytes that asks for a board at a stop with a long id.
 fn long_line(alloc: Global, length: usize) -> Result<Vec<u8>, Fail> {
     let mut line = Vec::new(alloc);
     line.extend_from_slice(b"board\t")?;
-    while line.len() + 6 < length {
+    for _ in BESIDE_ID..length {
         line.push(b'S')?;
     }
     line.extend_from_slice(b"\t@0\t@1")?;
@@ -192,6 +195,7 @@ fn a_line_has_at_most_a_mebibyte(rt: HostRuntime) -> Result<(), Fail> {
     ];
     for (length, wanted) in cases {
         let line = long_line(rt.alloc(), length)?;
+        assert_case(&rt, line.len(), length, "line", length);
         let lines = [line.as_slice()];
         let (ended, _) = talk(rt.alloc(), &mut folders, &SERVE, &lines, None, ROOM)?;
         assert_case(&rt, ended.seen()?, (0, wanted, ""), "end", length);
@@ -208,13 +212,13 @@ const TALK: [&[u8]; 3] = [b"board\tS9\t@0\t@1", BOARD, TIMETABLE];
 #[test]
 fn the_lines_before_a_failed_hearing_are_answered(rt: HostRuntime) -> Result<(), Fail> {
     let mut folders = folders(rt.alloc())?;
-    let lengths = [0, 17, 85, TALKED.len()];
-    for (index, &length) in lengths.iter().enumerate() {
-        let failing = Some(index + 1);
+    let cases = [(1, 0), (2, 17), (3, 85), (4, TALKED.len())];
+    for (heard, length) in cases {
+        let failing = Some(heard);
         let (ended, asked) = talk(rt.alloc(), &mut folders, &SERVE, &TALK, failing, ROOM)?;
         let wanted = (3, start_of(TALKED, length)?, INPUT_FAILED);
-        assert_case(&rt, ended.seen()?, wanted, "end", index);
-        assert_case(&rt, asked.len(), index + 1, "asked", index);
+        assert_case(&rt, ended.seen()?, wanted, "end", heard);
+        assert_case(&rt, asked.len(), heard, "asked", heard);
     }
     Ok(())
 }
@@ -226,7 +230,11 @@ fn nothing_is_heard_after_the_output_failed(rt: HostRuntime) -> Result<(), Fail>
         let (ended, asked) = talk(rt.alloc(), &mut folders, &SERVE, &TALK, None, room)?;
         let wanted = (3, start_of(TALKED, room)?, OUTPUT_FAILED);
         assert_case(&rt, ended.seen()?, wanted, "end", room);
-        let heard = 1 + usize::from(room >= 17) + usize::from(room >= 85);
+        let heard = match room {
+            ..=16 => 1,
+            17..=84 => 2,
+            _ => 3,
+        };
         assert_case(&rt, asked.len(), heard, "asked", room);
     }
     Ok(())
