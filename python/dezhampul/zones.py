@@ -3,6 +3,7 @@ import csv
 import itertools
 import os
 import re
+import sys
 from typing import Sequence
 
 from .faults import NoZone
@@ -16,12 +17,11 @@ _NAME = re.compile(r"[A-Za-z0-9_+-]+(/[A-Za-z0-9_+-]+)*")
 
 def zone_folders() -> Sequence[str]:
     """The folders that have zone files, as Python's zoneinfo knows them. `PYTHONTZPATH` names others."""
-    try:
+    if sys.version_info >= (3, 9):
         import zoneinfo
-    except ImportError:
-        named = os.environ.get("PYTHONTZPATH")
-        return _USUAL if named is None else [folder for folder in named.split(os.pathsep) if os.path.isabs(folder)]
-    return zoneinfo.TZPATH
+        return zoneinfo.TZPATH
+    named = os.environ.get("PYTHONTZPATH")
+    return _USUAL if named is None else [folder for folder in named.split(os.pathsep) if os.path.isabs(folder)]
 
 
 def agency_timezone(feed: Path) -> str:
