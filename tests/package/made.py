@@ -36,8 +36,9 @@ def at(seconds):
 
 
 def gtfs(*words):
-    """What the program prints for words, and its status."""
-    ran = subprocess.run([Tried.path, *words], stdin=subprocess.DEVNULL, stdout=subprocess.PIPE, stderr=subprocess.PIPE, timeout=LIMIT)
+    """What the program prints for words, and its status. It is called by its name, which its help tells, whatever its file is called."""
+    how = {"stdin": subprocess.DEVNULL, "stdout": subprocess.PIPE, "stderr": subprocess.PIPE, "timeout": LIMIT}
+    ran = subprocess.run(["gtfs", *words], executable=Tried.path, **how)
     return ran.returncode, ran.stdout.decode(), ran.stderr.decode()
 
 
