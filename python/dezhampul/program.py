@@ -50,7 +50,7 @@ def environment(program: str, command: Optional[str]) -> Dict[str, str]:
 
 
 def start(words: List[str], stdin: int) -> "subprocess.Popen[bytes]":
-    """Starts the program, with pipes from both of its outputs. Raises `NoProgram`, and `BrokenProcess` where the system does not start it."""
+    """Starts the program, with pipes from its outputs. Raises `NoProgram`, and `BrokenProcess` where the system does not start it."""
     program = find_program()
     try:
         return subprocess.Popen(
