@@ -42,7 +42,7 @@ REFUSALS = [
 
 
 class Opened:
-    """A feed that the program has read, its names and its zone, and when it was read, by which a page knows whether it has these names."""
+    """A feed that the program has read: its names, its zone, and when it was read, by which a page knows whether it has these names."""
 
     def __init__(self, folder, how):
         self.feed, self.read = dezhampul.Feed(folder, **how), time.time()
@@ -67,6 +67,8 @@ class Source:
                     clock = now.astimezone(opened.zone).replace(microsecond=0)
                     return {"now": clock, "fixed": self.now is not None, "read": opened.read, **question(opened, now, **fields)}
                 except LOST as fault:
+                    if fault is not self.fault:
+                        print(f"server: {fault}", file=sys.stderr, flush=True)
                     self.opened, self.fault = None, fault
             raise self.fault.with_traceback(None)
 
@@ -148,7 +150,7 @@ class Handler(BaseHTTPRequestHandler):
             return refusal_of(fault)
 
     def tell(self, status, told):
-        self.reply(status, "application/json", json.dumps(told, default=plain).encode())
+        self.reply(status, "application/json", (json.dumps(told, default=plain) + "\n").encode())
 
     def reply(self, status, kind, body):
         self.send_response(status)
@@ -166,7 +168,7 @@ class Handler(BaseHTTPRequestHandler):
         """Displays ask all day, so nothing is logged."""
 
 
-def parsed():
+def main():
     parser = argparse.ArgumentParser(description=__doc__)
     parser.add_argument("folder", help="the folder of the feed")
     parser.add_argument("--zone", help="the zone file, if it is not that of agency_timezone")
@@ -177,11 +179,6 @@ def parsed():
     given = parser.parse_args()
     if given.now and given.now.utcoffset() is None:
         parser.error("--now has no offset from UTC")
-    return given
-
-
-def main():
-    given = parsed()
     Handler.source = Source(given.folder, given.now, zone=given.zone, interpolate=given.interpolate)
     try:
         with contextlib.suppress(dezhampul.HasErrors):  # (the page tells them)
@@ -191,7 +188,9 @@ def main():
             server.serve_forever()
     except KeyboardInterrupt:
         pass
-    except (dezhampul.Refused, dezhampul.BrokenProcess, LookupError, OSError) as fault:
+    except LOST:
+        sys.exit(1)
+    except (dezhampul.Refused, OSError) as fault:
         sys.exit(f"server: {fault}")
 
 

@@ -59,12 +59,13 @@ class Scripts(Case):
             self.assertEqual([listens("127.0.0.1", port), listens("127.0.0.2", port)], [True, True])
 
     def test_ends(self):
-        """it ends without a word when it is interrupted, and its program with it"""
-        with running(example("broken"), "--zone", ZONE) as (process, _), running(example("harbour"), "--zone", ZONE) as (other, port):
-            for each in process, other:
-                each.send_signal(signal.SIGINT)
-                self.assertEqual((each.wait(20), each.stdout.read(), each.stderr.read()), (0, b"", b""))
-            self.assertFalse(listens("127.0.0.1", port))
+        """it ends without a word when it is interrupted; that a feed has errors it says at its start"""
+        errors = f"server: {example('broken')} has errors\n".encode()
+        for feed, told in ((example("harbour"), b""), (example("broken"), errors)):
+            with running(feed, "--zone", ZONE) as (process, port):
+                process.send_signal(signal.SIGINT)
+                self.assertEqual((process.wait(20), process.stdout.read(), process.stderr.read()), (0, b"", told))
+                self.assertFalse(listens("127.0.0.1", port))
 
     def test_refused(self):
         """calls that cannot be served are refused with a line"""

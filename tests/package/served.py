@@ -2,6 +2,7 @@
 import contextlib
 import http.client
 import importlib.util
+import io
 import json
 import os
 import threading
@@ -37,7 +38,14 @@ def board(feed, zone, stop, now, *words):
 
 
 class Served(Case):
-    """A test with a server of its own in this process."""
+    """A test with a server of its own in this process, and what that tells on its error output."""
+
+    def setUp(self):
+        super().setUp()
+        self.errors = io.StringIO()
+        redirected = contextlib.redirect_stderr(self.errors)
+        redirected.__enter__()
+        self.addCleanup(redirected.__exit__, None, None, None)
 
     def serve(self, folder, zone=ZONE, now=NOW, **how):
         """Serves a feed, and gives the source."""

@@ -171,7 +171,7 @@ class Refusals(Served):
         for text in (b"GET\r\n\r\n", b"GET / x y\r\n\r\n", b"GET / HTTP/9.9\r\n\r\n", b"\xff\r\n\r\n", many):
             with socket.create_connection(("127.0.0.1", self.port), timeout=30) as rude, rude.makefile("rb") as told:
                 rude.sendall(text)
-                self.assertTrue(told.read().endswith(b'{"error": "This cannot be asked for."}'), text)
+                self.assertTrue(told.read().endswith(b'{"error": "This cannot be asked for."}\n'), text)
         with socket.create_connection(("127.0.0.1", self.port), timeout=30) as gone:
             gone.sendall(b"GET /page.js HTTP/1.0\r\n\r\n")
         self.assertEqual(len(self.told("/board", stop="HAR")["departures"]), 10)
@@ -211,6 +211,7 @@ class Faults(Served):
             self.told("/names", 503)
             self.assertEqual(opened.call_count, 2)
         self.assertNotIn("none", json.dumps(self.told("/names", 503)))
+        self.assertEqual(self.errors.getvalue(), f"server: {self.path('none')} is not there\n" * 2)
 
     def test_killed(self):
         """if the process dies, another answers at once, but not one after another"""
