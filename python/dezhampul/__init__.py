@@ -4,7 +4,7 @@
         for departure in feed.next("HAR", count=10):
             print(departure.time, departure.route, departure.headsign)
 
-The program answers. This package starts it, asks it, and makes objects of its lines. Only `names` reads files of a feed itself.
+The program answers. This package starts it, asks it, and makes objects of its lines. Only `names` reads the files of a feed itself.
 """
 from .departures import Departure
 from .faults import (
