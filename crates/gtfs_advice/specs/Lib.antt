@@ -1,0 +1,9 @@
+pub mod Texts
+pub mod Agencies
+pub mod Stops
+pub mod Routes
+pub mod Trips
+pub mod StopTimes
+pub mod Services
+pub mod Codes
+pub mod Advice

@@ -1,0 +1,43 @@
+ghost use Rattle.std.specs.Prelude.{◌≡◌, ◌++◌, map, filter, OnOk};
+
+use crate::code::Code;
+
+use gtfs_feed::{AgencyNo, RouteNo, ServiceNo, StopNo, TripNo};
+use gtfs_field::{Day, OutOfMemory};
+
+/// What an advice is about: a row of the feed by its number, a day, or nothing.
+#[derive(Clone, Copy, Debug, PartialEq, Eq)]
+pub enum Subject {
+    Agency(AgencyNo),
+    Stop(StopNo),
+    Route(RouteNo),
+    Trip(TripNo),
+    Service(ServiceNo),
+    Day(Day),
+    /// There is no such day: of the last day with service in a feed without any.
+    Nothing,
+}
+
+/// What a reader of the feed would look at twice. It is no problem: the feed passes.
+#[derive(Clone, Copy, Debug, PartialEq, Eq)]
+pub struct Advice {
+    pub code: Code,
+    pub subject: Subject,
+}
+
+// Adds an advice about a subject for each of these rules that holds, in their order.
+pub(crate) fn tell(
+    told: &mut Vec<Advice>,
+    subject: Subject,
+    rules: &[(Code, bool)],
+) -> Result<(), OutOfMemory>
+    ensures { OnOk result (told.new.items ≡ told.old.items
+        ++ map (λ r. record { code = r.0; subject = subject }) (filter (λ r. r.1) rules.now)) }
+{
+    for &(code, holds) in rules {
+        if holds {
+            told.push(Advice { code, subject })?;
+        }
+    }
+    Ok(())
+}

@@ -1,0 +1,12 @@
+//! Advice on a GTFS Schedule feed that passed the validator: what is allowed, and yet is most often
+//! a mistake.
+//!
+//! [`advise`] lists it: for each file, each of its subjects and each code, in this order, those
+//! whose rule holds. Each rule stands in `specs/`, over the content of the feed alone.
+#![tactic(auto)]
+
+mod advice;
+mod code;
+
+pub use advice::{Advice, Subject};
+pub use code::Code;
