@@ -41,6 +41,10 @@ told_about about cs = map (λ c. (c, about)) cs
 abbrev pub advice_on : {X : Type 0} → (X → List ℕ) → List (Rule X) → List X → List (Code × About)
 advice_on id rules xs = flat_map (λ x. told_about (row (id x)) (codes_of rules x)) xs
 
+-- whether each rule holds of a row
+abbrev pub answers_of : {X : Type 0} → List (Rule X) → X → List (Code × Bool)
+answers_of rules x = map (λ r. (r.0, r.1 x)) rules
+
 -- ---- the rules of each file
 
 abbrev pub agency_rules : Content → List (Rule Agency)
@@ -135,6 +139,10 @@ about_of p subject.Nothing = nothing
 
 abbrev pub advice_of : Parts → Advice → Code × About
 advice_of p a = (a.code, about_of p a.subject)
+
+-- an advice about one subject for each rule that holds
+abbrev pub said : Subject → List (Code × Bool) → List Advice
+said s answers = map (λ r. record { code = r.0; subject = s }) (filter (λ r. r.1) answers)
 
 -- the number is that of a row
 abbrev pub IsWithin : Parts → Subject → Type 0

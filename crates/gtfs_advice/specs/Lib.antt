@@ -7,3 +7,4 @@ pub mod StopTimes
 pub mod Services
 pub mod Codes
 pub mod Advice
+pub mod Marks

@@ -1,6 +1,6 @@
 -- Which trips a reader would look at twice for their stop times (GTFS Schedule Reference, stop_times.txt).
 -- The stop times of a trip stand by their sequence. Times are seconds from the origin of the service day.
-use Rattle.std.specs.Prelude.{ℕ, ◌+◌, ◌-◌, ◌*◌, ◌==◌, ◌&&◌, Bool, nat_eq, nat_lt, List, [], ◌∷◌, length, take, drop, map, filter, bytes_eq, Option, Some, None, ℤ, ◌-ℤ◌, unsigned_abs}
+use Rattle.std.specs.Prelude.{ℕ, ◌+◌, ◌-◌, ◌*◌, ◌==◌, ◌&&◌, Bool, false, if◌then◌else◌, nat_eq, nat_lt, List, [], ◌∷◌, length, take, drop, map, filter, bytes_eq, Option, Some, None, ℤ, ◌-ℤ◌, unsigned_abs}
 use Rattle.std.specs.List.{last_or, list_all, list_any, range_with_len}
 use Rattle.std.specs.Option.{option_and_then, option_eq}
 use Rattle.gtfs_columns.specs.Values.{if_both, if_there}
@@ -18,7 +18,7 @@ stretches n rows = filter (λ s. length s == n) (map (λ k. take n (drop k rows)
 
 -- when the last of some rows is reached
 abbrev pub last_comes : List StopRow → Option ℕ
-last_comes rows = option_and_then (last_or None rows) comes
+last_comes rows = option_and_then comes (last_or None rows)
 
 -- a test of two rows, of which one follows the other
 abbrev pub of_two : (StopRow → StopRow → Bool) → List StopRow → Bool
@@ -50,7 +50,7 @@ abbrev pub latitude : Stop → Option ℤ
 latitude s = if has_place s then s.stop_lat else None
 
 abbrev pub latitude_at : Content → StopRow → Option ℤ
-latitude_at c row = option_and_then (stop_of c row.stop_id) latitude
+latitude_at c row = option_and_then latitude (stop_of c row.stop_id)
 
 -- farther apart, in units of 10^-9 degree of latitude, than 500 km/h allow from this second to that, with a minute more
 abbrev pub is_too_far : ℤ → ℤ → ℕ → ℕ → Bool

@@ -52,7 +52,7 @@ is_far s t = has_place s && has_place t
     && (differ_by_more 10_000_000 s.stop_lat t.stop_lat || differ_by_more 20_000_000 s.stop_lon t.stop_lon)
 
 abbrev pub is_far_from_parent : Content → Stop → Bool
-is_far_from_parent c s = if_there (option_and_then s.parent_station (stop_of c)) (is_far s)
+is_far_from_parent c s = if_there (option_and_then (stop_of c) s.parent_station) (is_far s)
 
 abbrev pub is_garbled_stop : Stop → Bool
 is_garbled_stop s = is_garbled_if_given s.stop_name

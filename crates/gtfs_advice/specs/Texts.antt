@@ -3,19 +3,29 @@ use Rattle.std.specs.Prelude.{ℕ, ◌==◌, ◌&&◌, ◌||◌, not, Bool, true
 use Rattle.std.specs.Char.{is_ascii_alphanumeric}
 use Rattle.std.specs.List.{starts_with}
 use Rattle.std.specs.Str.{chars}
-use Rattle.gtfs_columns.specs.Values.{if_both, if_there}
+use Rattle.gtfs_columns.specs.Values.{if_there}
 
 -- ---- garbled letters
 
--- U+00C2 or U+00C3, and right behind it one of U+0080 to U+00BF: the two bytes of a letter in UTF-8, each read as a letter of its own
+-- the two bytes of a letter in UTF-8, each read as a letter of its own: U+00C2 or U+00C3, and right behind it one of U+0080 to U+00BF
+abbrev pub is_lead : ℕ → Bool
+is_lead c = (c == 0xC2) || (c == 0xC3)
+
+abbrev pub is_trail : ℕ → Bool
+is_trail c = nat_le 0x80 c && nat_le c 0xBF
+
 abbrev pub is_misread : ℕ → List ℕ → Bool
 is_misread c [] = false
-is_misread c (next ∷ rest) = ((c == 0xC2) || (c == 0xC3)) && nat_le 0x80 next && nat_le next 0xBF
+is_misread c (next ∷ rest) = is_lead c && is_trail next
 
 -- some character is U+FFFD, which stands for what could not be read, or begins such a pair
 abbrev pub has_garbled : List ℕ → Bool
 has_garbled [] = false
 has_garbled (c ∷ cs) = (c == 0xFFFD) || is_misread c cs || has_garbled cs
+
+-- a character at which garbled letters are seen, behind one that may be the first of such a pair
+abbrev pub is_odd : Bool → ℕ → Bool
+is_odd is_behind_lead c = (c == 0xFFFD) || (is_behind_lead && is_trail c)
 
 abbrev pub is_garbled : List ℕ → Bool
 is_garbled text = has_garbled (chars text)

@@ -1,8 +1,9 @@
-ghost use Rattle.std.specs.Prelude.{◌≡◌, ◌++◌, map, filter, OnOk};
+ghost use Rattle.std.specs.Prelude.{◌≡◌, ◌++◌, OnOk};
+ghost use Rattle.gtfs_advice.specs.Advice.{said};
 
 use crate::code::Code;
 
-use gtfs_feed::{AgencyNo, RouteNo, ServiceNo, StopNo, TripNo};
+use gtfs_rows::{AgencyNo, RouteNo, ServiceNo, StopNo, TripNo};
 use gtfs_field::{Day, OutOfMemory};
 
 /// What an advice is about: a row of the feed by its number, a day, or nothing.
@@ -28,15 +29,17 @@ pub struct Advice {
 // Adds an advice about a subject for each of these rules that holds, in their order.
 pub(crate) fn tell(
     told: &mut Vec<Advice>,
-    subject: Subject,
-    rules: &[(Code, bool)],
+    subject: &Subject,
+    answers: &[(Code, bool)],
 ) -> Result<(), OutOfMemory>
-    ensures { OnOk result (told.new.items ≡ told.old.items
-        ++ map (λ r. record { code = r.0; subject = subject }) (filter (λ r. r.1) rules.now)) }
+    ensures { OnOk result (told.new.items ≡ told.old.items ++ said subject.now answers.now) }
 {
-    for &(code, holds) in rules {
+    for &(code, holds) in answers {
         if holds {
-            told.push(Advice { code, subject })?;
+            told.push(Advice {
+                code,
+                subject: *subject,
+            })?;
         }
     }
     Ok(())

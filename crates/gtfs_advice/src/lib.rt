@@ -7,6 +7,7 @@
 
 mod advice;
 mod code;
+mod texts;
 
 pub use advice::{Advice, Subject};
 pub use code::Code;
