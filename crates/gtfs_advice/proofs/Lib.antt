@@ -1,1 +1,2 @@
 mod Letters
+pub mod Telling
