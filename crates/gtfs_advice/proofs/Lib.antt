@@ -1,2 +1,4 @@
 mod Letters
 pub mod Telling
+pub mod Numbers
+pub mod Marking

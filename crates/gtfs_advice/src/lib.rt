@@ -6,7 +6,10 @@
 #![tactic(auto)]
 
 mod advice;
+mod agencies;
 mod code;
+mod routes;
+mod stops;
 mod texts;
 
 pub use advice::{Advice, Subject};
