@@ -2,3 +2,4 @@ mod Letters
 pub mod Telling
 pub mod Numbers
 pub mod Marking
+mod AgencyFacts
