@@ -3,3 +3,5 @@ pub mod Telling
 pub mod Numbers
 pub mod Marking
 mod AgencyFacts
+pub mod TripViews
+mod StopFacts

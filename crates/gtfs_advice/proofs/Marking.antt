@@ -15,7 +15,7 @@ use Rattle.gtfs_rows.specs.NamedRows.{is_number_within, text_of_number}
 use Rattle.gtfs_advice.specs.Marks.{AreMarks}
 use Rattle.gtfs_advice.proofs.Numbers.{same_number}
 
-or-none : (b : Bool) → (b || false) ≡ b
+pub or-none : (b : Bool) → (b || false) ≡ b
 or-none true = refl
 or-none false = refl
 
@@ -29,16 +29,10 @@ module _ {X : Type 0} (number : X → Option ℕ) where
   abbrev pub has_number : ℕ → X → Bool
   has_number k x = option_eq nat_eq (number x) (Some k)
 
-  module _ (size : ℕ) (xs : List X) where
-    -- the flags of the rows before the n-th
+  module _ (old : ℕ → Bool) (size : ℕ) (xs : List X) where
+    -- the flags that were set before, and those of the rows before the n-th
     abbrev pub AreMarksSoFar : ℕ → List Bool → Type 0
-    AreMarksSoFar n marks = AreMarks size (λ k. list_any (has_number k) (take n xs)) marks
-
-    pub none-marked : (marks : List Bool) → marks ≡ replicate size false → AreMarksSoFar 0 marks
-    none-marked marks are = record {
-      count = ap length are ∙ length-replicate size false;
-      at = λ k within. ap (λ ms. get_or ms k false) are ∙ get_or-replicate size k false false within;
-    }
+    AreMarksSoFar n marks = AreMarks size (λ k. old k || list_any (has_number k) (take n xs)) marks
 
     more : (n : ℕ) (x : X) (k : ℕ) → slice_get xs n ≡ Some x → list_any (has_number k) (take (n + 1) xs) ≡ (list_any (has_number k) (take n xs) || has_number k x)
     more n x k there =
@@ -51,10 +45,10 @@ module _ {X : Type 0} (number : X → Option ℕ) where
       at = λ k within. elim (eqb_tells m k) [
         | inl same ↦
             ap (λ ms. get_or ms k false) mark ∙ get_or-set_at before m k true false (sym same.1) (omega (arith, so_far.count, same.1))
-            ∙ sym (more n x k there ∙ or_right (list_any (has_number k) (take n xs)) (has_number k x) (ap (λ o. option_eq nat_eq o (Some k)) is ∙ same.0))
+            ∙ sym (or_right (old k) (list_any (has_number k) (take (n + 1) xs)) (more n x k there ∙ or_right (list_any (has_number k) (take n xs)) (has_number k x) (ap (λ o. option_eq nat_eq o (Some k)) is ∙ same.0)))
         | inr other ↦
             ap (λ ms. get_or ms k false) mark ∙ get_or-set_other before m k true false (λ e. other.1 (sym e)) ∙ so_far.at k within
-            ∙ sym (more n x k there ∙ ap (λ b. list_any (has_number k) (take n xs) || b) (ap (λ o. option_eq nat_eq o (Some k)) is ∙ other.0) ∙ or-none (list_any (has_number k) (take n xs)))
+            ∙ sym (ap (λ b. old k || b) (more n x k there ∙ ap (λ b. list_any (has_number k) (take n xs) || b) (ap (λ o. option_eq nat_eq o (Some k)) is ∙ other.0) ∙ or-none (list_any (has_number k) (take n xs))))
       ];
     }
 
@@ -62,11 +56,11 @@ module _ {X : Type 0} (number : X → Option ℕ) where
     none-more n x before after there is same so_far = record {
       count = ap length same ∙ so_far.count;
       at = λ k within. ap (λ ms. get_or ms k false) same ∙ so_far.at k within
-      ∙ sym (more n x k there ∙ ap (λ o. list_any (has_number k) (take n xs) || option_eq nat_eq o (Some k)) is ∙ or-none (list_any (has_number k) (take n xs)));
+      ∙ sym (ap (λ b. old k || b) (more n x k there ∙ ap (λ o. list_any (has_number k) (take n xs) || option_eq nat_eq o (Some k)) is ∙ or-none (list_any (has_number k) (take n xs))));
     }
 
-    pub all-marked : (n : ℕ) (marks : List Bool) → length xs ≤ n → AreMarksSoFar n marks → AreMarks size (λ k. list_any (has_number k) xs) marks
-    all-marked n marks all so_far = subst (λ ys. AreMarks size (λ k. list_any (has_number k) ys) marks) (take_all n xs all) so_far
+    pub all-marked : (n : ℕ) (marks : List Bool) → length xs ≤ n → AreMarksSoFar n marks → AreMarks size (λ k. old k || list_any (has_number k) xs) marks
+    all-marked n marks all so_far = subst (λ ys. AreMarks size (λ k. old k || list_any (has_number k) ys) marks) (take_all n xs all) so_far
 
   -- a row names a number exactly where it names its id
   pub named : (ids : List (List ℕ)) → Ascends text_cmp ids → (xs : List X) → list_all (λ x. is_number_within (length ids) (number x)) xs ≡ true → (k : ℕ) → k < length ids
