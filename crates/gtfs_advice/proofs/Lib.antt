@@ -4,4 +4,5 @@ pub mod Numbers
 pub mod Marking
 mod AgencyFacts
 pub mod TripViews
+pub mod Repeats
 mod StopFacts
