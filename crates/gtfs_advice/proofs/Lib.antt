@@ -5,4 +5,5 @@ pub mod Marking
 mod AgencyFacts
 pub mod TripViews
 pub mod Repeats
+mod NamedRoutes
 mod StopFacts

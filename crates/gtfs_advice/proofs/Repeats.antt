@@ -3,7 +3,7 @@
 use Rattle.std.proofs.Common.{◌≡◌, ◌≢◌, ◌∙◌, ◌+◌, ◌-◌, ◌<◌, ◌≤◌, ℕ, zero, suc, Bool, true, false, cond, List, [], ◌∷◌, Option, Some, None, length, get_or, drop, map, refl, sym, ap, subst, arith, inl, inr, ◌⊎◌}
 use Rattle.std.specs.Prelude.{◌==◌, ◌&&◌, nat_eq, nat_lt}
 use Rattle.std.specs.Cmp.{IsTotalOrder, nat_cmp_total, on_total, then_total, tied_back}
-use Rattle.std.specs.List.{Any, AllPairs, IsDistinct, list_any, range_with_len, slice_get, zip}
+use Rattle.std.specs.List.{Any, AllPairs, IsDistinct, list_any, range_with_len, slice_get, slice_set, zip}
 use Rattle.std.specs.List.Sorted.{IsPermutation, IsSorted}
 use Rattle.std.specs.Option.{option_eq}
 use Rattle.std.specs.Ordering.{is_eq, is_lt, nat_cmp, ordering_reverse, ordering_then}
@@ -18,10 +18,12 @@ use Rattle.std.proofs.lemmas.List.Sorted.{Contains-permutation, IsPermutation-ma
 use Rattle.std.proofs.lemmas.List.FromFn.{get_or-range_with_len, length-range_with_len}
 use Rattle.std.proofs.lemmas.Map.Keys.{IsDistinct-IsPermutation}
 use Rattle.std.proofs.lemmas.Map.Made.{AllPairs-from_IsDistinct, IsDistinct-from_AllPairs}
-use Rattle.std.proofs.lemmas.Option.{get_or_from_slice_get, slice_get_within}
+use Rattle.std.proofs.lemmas.Option.{get_or_from_slice_get, same_Some, slice_get-get_or, slice_get_within}
 use Rattle.gtfs_field.proofs.ListFacts.{pairs-from_map}
 use Rattle.gtfs_field.proofs.OrderingFacts.{equal}
 use Rattle.gtfs_columns.proofs.BoolFacts.{same_test}
+use Rattle.gtfs_advice.specs.Marks.{AreMarks}
+use Rattle.gtfs_advice.proofs.Marking.{AreMarksSoFar, all-marked, none-more, one-marked}
 
 -- ---- orderings
 
@@ -214,3 +216,42 @@ distinct_numbers number xs ys n up moved =
 -- where an element of a list stands when its elements have changed places
 pub moved_to : {X : Type 0} (xs ys : List X) (i : ℕ) (x : X) → IsPermutation xs ys → slice_get xs i ≡ Some x → (j : ℕ) × (j < length ys) × (get_or ys j x ≡ x)
 moved_to xs ys i x moved at = Contains-permutation xs ys x moved (i, slice_get_within xs i x at, get_or_from_slice_get xs i x x at)
+
+-- ---- marks of the second of neighbours
+
+neighbour_at : {X : Type 0} (xs : List X) (n : ℕ) (x y : X) → slice_get xs n ≡ Some x → slice_get xs (suc n) ≡ Some y → slice_get (zip xs (drop 1 xs)) n ≡ Some (x, y)
+neighbour_at [] n x y first second = cc
+neighbour_at (a ∷ []) zero x y first second = cc
+neighbour_at (a ∷ []) (suc n) x y first second = cc
+neighbour_at (a ∷ b ∷ xs) zero x y first second = λ i. Some (same_Some a x first i, same_Some b y second i)
+neighbour_at (a ∷ b ∷ xs) (suc n) x y first second = neighbour_at (b ∷ xs) n x y first second
+
+length-neighbours : {X : Type 0} (xs : List X) → length (zip xs (drop 1 xs)) ≡ length xs - 1
+length-neighbours [] = omega arith
+length-neighbours (a ∷ []) = omega arith
+length-neighbours (a ∷ b ∷ xs) = let rest = length-neighbours (b ∷ xs) in omega (arith, rest)
+
+module _ {X : Type 0} (number : X × X → Option ℕ) (size : ℕ) (xs : List X) where
+  abbrev AreSoFar : ℕ → List Bool → Type 0
+  AreSoFar n marks = AreMarksSoFar number (λ k. false) size (zip xs (drop 1 xs)) n marks
+
+  module _ (place : ℕ) (some : 1 ≤ place) (within : place < length xs) (d : X) where
+    there : slice_get (zip xs (drop 1 xs)) (place - 1) ≡ Some (get_or xs (place - 1) d, get_or xs place d)
+    there =
+        let next : place ≡ suc (place - 1) = omega (arith, some) in
+        neighbour_at xs (place - 1) (get_or xs (place - 1) d) (get_or xs place d) (slice_get-get_or xs (place - 1) d (omega (arith, within)))
+        (ap (slice_get xs) (sym next) ∙ slice_get-get_or xs place d within)
+
+    next : place - 1 + 1 ≡ place + 1 - 1
+    next = omega (arith, some)
+
+    pub second-marked : (m : ℕ) (before after : List Bool) → number (get_or xs (place - 1) d, get_or xs place d) ≡ Some m → after ≡ slice_set before m true → AreSoFar (place - 1) before → AreSoFar (place + 1 - 1) after
+    second-marked m before after is set so_far =
+        subst (λ n. AreSoFar n after) next (one-marked number (λ k. false) size (zip xs (drop 1 xs)) (place - 1) (get_or xs (place - 1) d, get_or xs place d) m before after there is set so_far)
+
+    pub second-kept : (before after : List Bool) → number (get_or xs (place - 1) d, get_or xs place d) ≡ None → after ≡ before → AreSoFar (place - 1) before → AreSoFar (place + 1 - 1) after
+    second-kept before after is same so_far =
+        subst (λ n. AreSoFar n after) next (none-more number (λ k. false) size (zip xs (drop 1 xs)) (place - 1) (get_or xs (place - 1) d, get_or xs place d) before after there is same so_far)
+
+  pub seconds-marked : (place : ℕ) (marks : List Bool) → length xs ≤ place → AreSoFar (place - 1) marks → AreMarks size (λ k. list_any (λ w. option_eq nat_eq (number w) (Some k)) (zip xs (drop 1 xs))) marks
+  seconds-marked place marks past so_far = all-marked number (λ k. false) size (zip xs (drop 1 xs)) (place - 1) marks (omega (arith, length-neighbours xs, past)) so_far

@@ -8,6 +8,7 @@
 mod advice;
 mod agencies;
 mod code;
+mod named_routes;
 mod routes;
 mod stops;
 mod texts;
