@@ -6,4 +6,5 @@ mod AgencyFacts
 pub mod TripViews
 pub mod Repeats
 mod NamedRoutes
+mod NamedAsOthers
 mod StopFacts
