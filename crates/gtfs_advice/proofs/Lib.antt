@@ -7,4 +7,5 @@ pub mod TripViews
 pub mod Repeats
 mod NamedRoutes
 mod NamedAsOthers
+mod RouteFacts
 mod StopFacts
