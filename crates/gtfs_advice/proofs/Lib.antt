@@ -5,3 +5,8 @@ pub mod Marking
 mod AgencyFacts
 pub mod TripViews
 mod StopFacts
+mod Seasons
+mod Gaps
+mod KnownDays
+mod Waits
+mod UsedFacts

@@ -8,3 +8,7 @@ pub mod Services
 pub mod Codes
 pub mod Advice
 pub mod Marks
+pub mod Seasons
+pub mod ServedDays
+pub mod Waiting
+pub mod UsedServices

@@ -1,0 +1,62 @@
+//! Services without trips.
+ghost use Rattle.std.specs.Prelude.{◌≡◌, ◌<◌, ◌∷◌, [], ◌&&◌, not, IfOk, OnOk, length};
+ghost use Rattle.gtfs_rows.specs.Content.{Content};
+ghost use Rattle.gtfs_rows.specs.Views.{IsSoundParts, content_of_parts, service_of};
+ghost use Rattle.gtfs_advice.specs.Advice.{Tells, advice_on};
+ghost use Rattle.gtfs_advice.specs.Services.{has_no_trip};
+ghost use Rattle.gtfs_advice.specs.UsedServices.{AreServiceMarks, stands_under};
+
+use crate::advice::{Advice, Subject, tell};
+use crate::code::Code;
+use gtfs_field::OutOfMemory;
+use gtfs_rows::{Parts, ServiceNo, ServiceRow};
+use std::alloc::Global;
+
+// Of each service, by its number, whether a trip is of it, and one with a stop time where only
+// these count.
+pub(crate) fn with_trips(
+    alloc: Global,
+    parts: &Parts,
+    with_calls: bool,
+) -> Result<Vec<bool>, OutOfMemory>
+    requires { IsSoundParts parts.now }
+    ensures { IfOk result (λ marks. AreServiceMarks parts.now with_calls marks.items) }
+{
+    let mut marks = vec![in alloc; false; parts.services.len()]?;
+    for (number, trip) in parts.trips.as_slice().iter().enumerate() {
+        if !with_calls || !parts.stop_times.of_trip(number).is_empty() {
+            marks[trip.service_id.0] = true;
+        }
+    }
+    Ok(marks)
+}
+
+// Tells of each service under calendar.txt, or under calendar_dates.txt, that no trip is of it,
+// where its mark says so.
+fn tell_each(
+    parts: &Parts,
+    marks: &[bool],
+    code: Code,
+    in_calendar: bool,
+    told: &mut Vec<Advice>,
+) -> Result<(), OutOfMemory>
+    requires sound { IsSoundParts parts.now }
+    requires marks { AreServiceMarks parts.now false marks.now }
+    ensures { let c = content_of_parts parts.now in OnOk result (Tells parts.now
+        (advice_on (λ s. s.service_id)
+            ((code, λ s. stands_under in_calendar s && has_no_trip c s) ∷ []) c.services)
+        told.old.items told.new.items) }
+{
+    for (number, row) in parts.services.as_slice().iter().enumerate() {
+        let holds = stands_under(row, in_calendar) && !marks[number];
+        tell(told, &Subject::Service(ServiceNo(number)), &[(code, holds)])?;
+    }
+    Ok(())
+}
+
+// Whether a service stands under calendar.txt, or else under calendar_dates.txt.
+fn stands_under(row: &ServiceRow, in_calendar: bool) -> bool
+    ensures { result ≡ stands_under in_calendar (service_of row.now) }
+{
+    row.service.week().is_some() == in_calendar
+}
