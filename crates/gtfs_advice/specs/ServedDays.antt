@@ -1,8 +1,12 @@
 -- What is known of the days with service, as they are walked.
-use Rattle.std.specs.Prelude.{◌≡◌, ◌&&◌, Bool, true, false, if◌then◌else◌, List, [], ◌∷◌, filter, map, ℤ, pos, ◌+ℤ◌, ◌-ℤ◌, ◌<ℤ◌, ◌≤ℤ◌, int_lt, not, unsigned_abs}
+use Rattle.std.specs.Prelude.{◌≡◌, ◌&&◌, Bool, true, false, if◌then◌else◌, List, [], ◌∷◌, filter, map, ℤ, pos, ◌+ℤ◌, ◌-ℤ◌, ◌<ℤ◌, ◌≤ℤ◌, int_le, int_lt, not, Option, None, Some, unsigned_abs}
 use Rattle.std.specs.List.{range_with_len}
 use Rattle.gtfs_days.specs.Service.{first_service_day, is_service_day, last_service_day}
 use Rattle.gtfs_advice.specs.Services.{begins_gap_of}
+use Rattle.gtfs_advice.specs.declared.advice.Advice.{Advice}
+use Rattle.gtfs_advice.specs.declared.advice.Subject.{Subject}
+use Rattle.gtfs_advice.specs.declared.advice.Subject.TheVariants as subject
+use Rattle.gtfs_advice.specs.declared.code.Code.TheVariants as code
 use Rattle.gtfs_advice.specs.declared.served_days.ServedDays.{ServedDays}
 
 -- something runs on service days alone
@@ -36,3 +40,17 @@ pub record AreAllKnown (served : ℤ → Bool) (days : ServedDays) : Type 0 wher
   pub known : AreKnown served days
   pub to : days.until ≤ℤ (last_service_day +ℤ pos 1)
   pub over : (d : ℤ) → days.until ≤ℤ d → served d ≡ false
+
+-- ---- what is told of them
+
+-- the last day on which something runs
+abbrev pub last_of : ServedDays → Subject
+last_of days = if int_lt first_service_day days.until then subject.Day (days.until -ℤ pos 1) else subject.Nothing
+
+abbrev pub gaps_said : ServedDays → List Advice
+gaps_said days = map (λ d. record { code = code.GapInService; subject = subject.Day d }) days.gaps.items
+
+-- nothing runs from the sixth day after the one that is given on
+abbrev pub end_said : ServedDays → Option ℤ → List Advice
+end_said days None = []
+end_said days (Some d) = if int_le days.until (d +ℤ pos 6) then record { code = code.EndOfService; subject = last_of days } ∷ [] else []

@@ -1,5 +1,5 @@
 //! Services without trips.
-ghost use Rattle.std.specs.Prelude.{◌≡◌, ◌<◌, ◌∷◌, [], ◌&&◌, not, IfOk, OnOk, length};
+ghost use Rattle.std.specs.Prelude.{◌≡◌, ◌<◌, ◌∷◌, [], ◌&&◌, ◌==◌, false, not, IfOk, OnOk, length};
 ghost use Rattle.gtfs_rows.specs.Content.{Content};
 ghost use Rattle.gtfs_rows.specs.Views.{IsSoundParts, content_of_parts, service_of};
 ghost use Rattle.gtfs_advice.specs.Advice.{Tells, advice_on};
@@ -9,7 +9,7 @@ ghost use Rattle.gtfs_advice.specs.UsedServices.{AreServiceMarks, stands_under};
 use crate::advice::{Advice, Subject, tell};
 use crate::code::Code;
 use gtfs_field::OutOfMemory;
-use gtfs_rows::{Parts, ServiceNo, ServiceRow};
+use gtfs_rows::{Parts, ServiceNo, ServiceRow, StopRow};
 use std::alloc::Global;
 
 // Of each service, by its number, whether a trip is of it, and one with a stop time where only
@@ -24,11 +24,18 @@ pub(crate) fn with_trips(
 {
     let mut marks = vec![in alloc; false; parts.services.len()]?;
     for (number, trip) in parts.trips.as_slice().iter().enumerate() {
-        if !with_calls || !parts.stop_times.of_trip(number).is_empty() {
+        if counts(parts.stop_times.of_trip(number), with_calls) {
             marks[trip.service_id.0] = true;
         }
     }
     Ok(marks)
+}
+
+// Whether a trip with these stop times counts.
+fn counts(stop_times: &[StopRow], with_calls: bool) -> bool
+    ensures { result ≡ not (with_calls && (length stop_times.now == 0)) }
+{
+    !(with_calls && stop_times.is_empty())
 }
 
 // Tells of each service under calendar.txt, or under calendar_dates.txt, that no trip is of it,
@@ -48,15 +55,20 @@ fn tell_each(
         told.old.items told.new.items) }
 {
     for (number, row) in parts.services.as_slice().iter().enumerate() {
-        let holds = stands_under(row, in_calendar) && !marks[number];
-        tell(told, &Subject::Service(ServiceNo(number)), &[(code, holds)])?;
+        let holds = lacks_trip(row, in_calendar, marks[number]);
+        tell(
+            told,
+            &Subject::Service(ServiceNo(number)),
+            &[(code, holds)],
+        )?;
     }
     Ok(())
 }
 
-// Whether a service stands under calendar.txt, or else under calendar_dates.txt.
-fn stands_under(row: &ServiceRow, in_calendar: bool) -> bool
-    ensures { result ≡ stands_under in_calendar (service_of row.now) }
+// Whether a service stands under calendar.txt, or else under calendar_dates.txt, and no trip is of
+// it.
+fn lacks_trip(row: &ServiceRow, in_calendar: bool, has_trip: bool) -> bool
+    ensures { result ≡ (stands_under in_calendar (service_of row.now) && not has_trip) }
 {
-    row.service.week().is_some() == in_calendar
+    row.service.week().is_some() == in_calendar && !has_trip
 }
