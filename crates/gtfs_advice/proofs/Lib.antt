@@ -10,3 +10,4 @@ mod Gaps
 mod KnownDays
 mod Waits
 mod UsedFacts
+mod ToldDays

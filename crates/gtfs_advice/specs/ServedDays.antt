@@ -47,10 +47,16 @@ pub record AreAllKnown (served : ℤ → Bool) (days : ServedDays) : Type 0 wher
 abbrev pub last_of : ServedDays → Subject
 last_of days = if int_lt first_service_day days.until then subject.Day (days.until -ℤ pos 1) else subject.Nothing
 
+abbrev pub gap_said : ℤ → Advice
+gap_said d = record { code = code.GapInService; subject = subject.Day d }
+
 abbrev pub gaps_said : ServedDays → List Advice
-gaps_said days = map (λ d. record { code = code.GapInService; subject = subject.Day d }) days.gaps.items
+gaps_said days = map gap_said days.gaps.items
+
+abbrev pub end_of : ServedDays → Advice
+end_of days = record { code = code.EndOfService; subject = last_of days }
 
 -- nothing runs from the sixth day after the one that is given on
 abbrev pub end_said : ServedDays → Option ℤ → List Advice
 end_said days None = []
-end_said days (Some d) = if int_le days.until (d +ℤ pos 6) then record { code = code.EndOfService; subject = last_of days } ∷ [] else []
+end_said days (Some d) = if int_le days.until (d +ℤ pos 6) then end_of days ∷ [] else []

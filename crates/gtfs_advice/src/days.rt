@@ -1,5 +1,6 @@
 //! Days without service.
-ghost use Rattle.std.specs.Prelude.{◌≡◌, ◌++◌, IfOk, OnOk};
+ghost use Rattle.std.specs.Prelude.{◌≡◌, ◌++◌, ◌≤ℤ◌, IfOk, IfSome, OnOk};
+ghost use Rattle.gtfs_days.specs.Service.{first_service_day};
 ghost use Rattle.gtfs_rows.specs.Views.{IsSoundParts, content_of_parts};
 ghost use Rattle.gtfs_advice.specs.Advice.{Tells, end_advice, gap_advice};
 ghost use Rattle.gtfs_advice.specs.ServedDays.{AreAllKnown, end_said, gaps_said, last_of};
@@ -11,23 +12,23 @@ use crate::served_days::ServedDays;
 use crate::services::with_trips;
 use crate::waiting::all_days;
 use gtfs_days::FIRST_SERVICE_DAY;
+use gtfs_feed::Feed;
 use gtfs_field::{Day, OutOfMemory};
 use gtfs_rows::Parts;
 use std::alloc::Global;
 
 // Tells on which days two weeks or more without service begin and, if a day is given, whether
 // fewer than seven days with service are left from it on.
-fn tell_all(
+pub(crate) fn tell_days(
     alloc: Global,
-    parts: &Parts,
+    feed: &Feed,
     day: Option<Day>,
     told: &mut Vec<Advice>,
 ) -> Result<(), OutOfMemory>
-    requires { IsSoundParts parts.now }
-    ensures { let c = content_of_parts parts.now in OnOk result
-        (Tells parts.now (gap_advice c ++ end_advice c day) told.old.items told.new.items) }
+    ensures { let c = content_of_parts feed.now in OnOk result
+        (Tells feed.now (gap_advice c ++ end_advice c day) told.old.items told.new.items) }
 {
-    let days = served_days(alloc, parts)?;
+    let days = served_days(alloc, feed.parts())?;
     tell_gaps(&days, told)?;
     tell_end(&days, day, told)
 }
@@ -58,7 +59,8 @@ fn tell_end(
     day: Option<Day>,
     told: &mut Vec<Advice>,
 ) -> Result<(), OutOfMemory>
-    ensures { OnOk result (told.new.items ≡ told.old.items ++ end_said days.now day) }
+    ensures told { OnOk result (told.new.items ≡ told.old.items ++ end_said days.now day) }
+    ensures low { IfSome day (λ d. first_service_day ≤ℤ d) }
 {
     let Some(day) = day else {
         return Ok(());

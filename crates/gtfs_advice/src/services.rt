@@ -1,16 +1,59 @@
 //! Services without trips.
-ghost use Rattle.std.specs.Prelude.{◌≡◌, ◌<◌, ◌∷◌, [], ◌&&◌, ◌==◌, false, not, IfOk, OnOk, length};
+ghost use Rattle.std.specs.Prelude.{◌≡◌, ◌<◌, ◌∷◌, [], ◌&&◌, ◌==◌, false, filter, not, IfOk, OnOk, length};
 ghost use Rattle.gtfs_rows.specs.Content.{Content};
 ghost use Rattle.gtfs_rows.specs.Views.{IsSoundParts, content_of_parts, service_of};
-ghost use Rattle.gtfs_advice.specs.Advice.{Tells, advice_on};
+ghost use Rattle.gtfs_advice.specs.Advice.{Tells, advice_on, calendar_advice, date_advice};
 ghost use Rattle.gtfs_advice.specs.Services.{has_no_trip};
 ghost use Rattle.gtfs_advice.specs.UsedServices.{AreServiceMarks, stands_under};
 
 use crate::advice::{Advice, Subject, tell};
 use crate::code::Code;
+use gtfs_feed::Feed;
 use gtfs_field::OutOfMemory;
 use gtfs_rows::{Parts, ServiceNo, ServiceRow, StopRow};
 use std::alloc::Global;
+
+// Tells which services have a row in calendar.txt and no trip.
+pub(crate) fn tell_calendar(
+    alloc: Global,
+    feed: &Feed,
+    told: &mut Vec<Advice>,
+) -> Result<(), OutOfMemory>
+    ensures { OnOk result (Tells feed.now (calendar_advice (content_of_parts feed.now))
+        told.old.items told.new.items) }
+{
+    tell_unused(alloc, feed.parts(), Code::ServiceWithoutTrip, true, told)
+}
+
+// Tells which services have rows in calendar_dates.txt alone, and no trip.
+pub(crate) fn tell_dates(
+    alloc: Global,
+    feed: &Feed,
+    told: &mut Vec<Advice>,
+) -> Result<(), OutOfMemory>
+    ensures { OnOk result (Tells feed.now (date_advice (content_of_parts feed.now))
+        told.old.items told.new.items) }
+{
+    tell_unused(alloc, feed.parts(), Code::DatesWithoutTrip, false, told)
+}
+
+// Tells which services under calendar.txt, or under calendar_dates.txt, have no trip.
+fn tell_unused(
+    alloc: Global,
+    parts: &Parts,
+    code: Code,
+    in_calendar: bool,
+    told: &mut Vec<Advice>,
+) -> Result<(), OutOfMemory>
+    requires { IsSoundParts parts.now }
+    ensures { let c = content_of_parts parts.now in OnOk result (Tells parts.now
+        (advice_on (λ s. s.service_id) ((code, has_no_trip c) ∷ [])
+            (filter (stands_under in_calendar) c.services))
+        told.old.items told.new.items) }
+{
+    let marks = with_trips(alloc, parts, false)?;
+    tell_each(parts, &marks, code, in_calendar, told)
+}
 
 // Of each service, by its number, whether a trip is of it, and one with a stop time where only
 // these count.
