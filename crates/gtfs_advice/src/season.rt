@@ -1,15 +1,16 @@
-//! How long a service goes on without a gap of two weeks.
-ghost use Rattle.std.specs.Prelude.{◌≡◌, true, IfSome, ℤ, pos, ◌+ℤ◌, ◌≤ℤ◌, ◌<ℤ◌};
+//! How long a service goes on without a rest of two weeks.
+ghost use Rattle.std.specs.Prelude.{◌≡◌, true, MatchOption, ℤ, pos, ◌+ℤ◌, ◌≤ℤ◌, ◌<ℤ◌};
 ghost use Rattle.gtfs_days.specs.Service.{is_active, last_service_day};
-ghost use Rattle.gtfs_advice.specs.Seasons.{GoesOn, IsNear};
+ghost use Rattle.gtfs_advice.specs.Seasons.{GoesOn, IsNear, RestsFrom};
 
 use gtfs_days::Service;
 use gtfs_field::Day;
 
-// The day after the last one on which a service runs before it rests for two weeks or more.
-pub fn day_after_season(service: &Service, from: Day) -> Day
+// The day from which on a service that runs on a day rests for two weeks or more.
+pub(crate) fn day_after_season(service: &Service, from: Day) -> Day
     requires { is_active service.now from ≡ true }
-    ensures { GoesOn (is_active service.now) from result }
+    ensures goes_on { GoesOn (is_active service.now) from result }
+    ensures rests { RestsFrom (is_active service.now) result }
 {
     let mut last = from;
     while let Some(next) = next_in_season(service, last) {
@@ -18,12 +19,13 @@ pub fn day_after_season(service: &Service, from: Day) -> Day
     days_after(last, 1)
 }
 
-// A later day on which the service runs, two weeks later at most.
+// A later day on which the service runs, two weeks later at most, if there is one.
 //
 // Weeks are mostly alike, so the day two weeks later is tried first.
 fn next_in_season(service: &Service, day: Day) -> Option<Day>
     requires { is_active service.now day ≡ true }
-    ensures { IfSome result (IsNear (is_active service.now) day) }
+    ensures { MatchOption result (RestsFrom (is_active service.now) (day +ℤ pos 1))
+        (IsNear (is_active service.now) day) }
 {
     let fortnight = days_after(day, 14);
     if service.active(fortnight) {

@@ -1,4 +1,8 @@
-//! Services that wait for the walk over their days.
+//! The walk over the days on which services run.
+//!
+//! It goes from one day with service to the next along one service, as long as that one does not
+//! rest for two weeks. Meanwhile all others wait, each for one of its days, and are asked again
+//! where they come first. So a service is asked as often as it rests, and not on each of its days.
 ghost use Rattle.std.specs.Prelude.{All, ◌≡◌, ◌<◌, true, false, length, IfOk, OnOk, Bool, ℕ, ℤ, Some, pos, ◌+ℤ◌, ◌≤ℤ◌, ◌<ℤ◌, slice_get, slice_index_or};
 ghost use Rattle.std.specs.BinaryHeap.{IsHeap, heap_items};
 ghost use Rattle.gtfs_days.specs.Service.{first_service_day, is_active, last_service_day};
@@ -16,8 +20,8 @@ use std::collections::BinaryHeap;
 // Services by their numbers, each with a day on which it runs. The earliest day comes first.
 type Waiting = BinaryHeap<Reverse<(Day, usize)>>;
 
-/// All days.
-pub fn all_days(
+// The days on which these services run, of which only those that are used count.
+pub(crate) fn all_days(
     alloc: Global,
     services: &[ServiceRow],
     used: &[bool],

@@ -17,5 +17,5 @@ returns-clause-known c served services part quiet known =
     let service = int_le-true due last_service_day (and_parts (int_le first_service_day due) (int_le due last_service_day) (services due runs)).1 in
     let up : until ≤ℤ due = int_lt-false due until (sym c.if-is_before.ensures) in
     let new : ServedDays = record { until = after; gaps = c.note_gap.new.self.gaps } in
-    known_after served due after (goes_on_part active served due after part c.day_after_season-self.ensures) runs
+    known_after served due after (goes_on_part active served due after part c.day_after_season-self.ensures.goes_on) runs
     until known.from quiet c.args.self.now new refl known services up service refl c.in_ok-note_gap.ensures.gaps
