@@ -2,7 +2,7 @@
 use Rattle.std.proofs.Common.{◌≡◌, ◌∙◌, ◌+◌, ◌++◌, ◌<◌, ◌≤◌, ℕ, zero, suc, Bool, true, false, not, List, [], ◌∷◌, cond, length, filter, map, get_or, ℤ, pos, ◌+ℤ◌, ◌-ℤ◌, ◌<ℤ◌, ◌≤ℤ◌, int_lt, unsigned_abs, refl, sym, ap, inl, inr, arith}
 use Rattle.std.specs.Prelude.{◌&&◌}
 use Rattle.std.specs.List.{list_any, range_with_len}
-use Rattle.std.proofs.lemmas.Bool.{and_left, and_right, and_from, cases_Bool, both_ways}
+use Rattle.std.proofs.lemmas.Bool.{and_left, and_right, and_from}
 use Rattle.std.proofs.lemmas.List.{append-nil}
 use Rattle.std.proofs.lemmas.List.Folds.{list_any_at, list_any_none}
 use Rattle.std.proofs.lemmas.List.FromFn.{filter_of_map_range_with_len_more, get_or-map-range_with_len, get_or-range_with_len, length-map-range_with_len, length-range_with_len}
@@ -11,7 +11,7 @@ use Rattle.jiff_core.proofs.SignedLemmas.{signed_arith}
 use Rattle.gtfs_field.proofs.NumberFacts.{abs-above, cases_int, lt-int_lt}
 use Rattle.gtfs_days.specs.Service.{first_service_day, last_service_day, service_day_count, service_days}
 use Rattle.gtfs_advice.specs.Services.{begins_gap_of}
-use Rattle.gtfs_advice.specs.ServedDays.{IsQuiet, RunsOnServiceDays, days_before}
+use Rattle.gtfs_advice.specs.ServedDays.{IsQuiet, days_before}
 
 -- ---- the days before one, each in turn
 
@@ -33,7 +33,6 @@ none_longer p n (suc m) none =
     ∙ ap (λ b. filter p (first_days (n + m)) ++ cond b (day (n + m) ∷ []) []) here
     ∙ append-nil (filter p (first_days (n + m)))
     ∙ none_longer p n m (λ k from to. none k from (omega arith))
-
 
 pub none_more : (p : ℤ → Bool) (from until : ℤ) → first_service_day ≤ℤ from → from ≤ℤ until → ((d : ℤ) → from ≤ℤ d → d <ℤ until → p d ≡ false)
     → filter p (days_before until) ≡ filter p (days_before from)
@@ -118,10 +117,10 @@ module _ (served : ℤ → Bool) where
   gap_begins d next low high ran quiet later runs =
       let q : ℕ → Bool = λ i. served (d +ℤ pos i) in
       let none : list_any q (range_with_len 0 14) ≡ false = list_any_none q (range_with_len 0 14) (λ k e inside.
-        let within : k < 14 = omega (arith, length-range_with_len 0 14) in
-        let here : 0 + k ≡ k = omega arith in
-        let same : get_or (range_with_len 0 14) k e ≡ k = get_or-range_with_len 0 14 k e within ∙ here in
-        ap q same ∙ quiet (d +ℤ pos k) (omega (arith, signed_arith)) (omega (arith, signed_arith))) in
+      let within : k < 14 = omega (arith, length-range_with_len 0 14) in
+      let here : 0 + k ≡ k = omega arith in
+      let same : get_or (range_with_len 0 14) k e ≡ k = get_or-range_with_len 0 14 k e within ∙ here in
+      ap q same ∙ quiet (d +ℤ pos k) (omega (arith, signed_arith)) (omega (arith, signed_arith))) in
       let again : list_any (λ e. int_lt d e && served e) service_days ≡ true = any_day (λ e. int_lt d e && served e) next low high
       (and_from (int_lt d next) (served next) (lt-int_lt d next later) runs) in
       and_from (served (d -ℤ pos 1) && not (list_any q (range_with_len 0 14))) (list_any (λ e. int_lt d e && served e) service_days)

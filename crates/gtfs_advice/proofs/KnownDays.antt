@@ -1,12 +1,11 @@
 -- Days that are known, and what a service that goes on adds to them.
-use Rattle.std.proofs.Common.{◌≡◌, ◌∙◌, ◌+◌, ◌++◌, ◌<◌, ℕ, Bool, true, false, not, List, [], ◌∷◌, cond, filter, ℤ, pos, ◌+ℤ◌, ◌-ℤ◌, ◌<ℤ◌, ◌≤ℤ◌, int_le, int_lt, refl, sym, ap, inl, inr, arith}
-use Rattle.std.specs.Prelude.{◌&&◌, if◌then◌else◌}
-use Rattle.std.proofs.lemmas.Bool.{and_parts, cases_Bool, both_ways}
+use Rattle.std.proofs.Common.{◌≡◌, ◌∙◌, ◌++◌, Bool, true, false, not, [], ◌∷◌, cond, filter, ℤ, pos, ◌+ℤ◌, ◌-ℤ◌, ◌<ℤ◌, ◌≤ℤ◌, int_le, int_lt, refl, sym, ap, inl, inr, arith}
+use Rattle.std.specs.Prelude.{◌&&◌}
+use Rattle.std.proofs.lemmas.Bool.{and_parts, cases_Bool}
 use Rattle.std.proofs.lemmas.List.{append-nil}
-use Rattle.std.proofs.lemmas.Int.{ints}
 use Rattle.jiff_core.proofs.SignedLemmas.{signed_arith}
-use Rattle.gtfs_field.proofs.NumberFacts.{cases_int, int_le-true, int_lt-true, int_lt-false, le-int_le, lt-int_lt}
-use Rattle.gtfs_days.specs.Service.{first_service_day, is_service_day, last_service_day}
+use Rattle.gtfs_field.proofs.NumberFacts.{cases_int, int_le-true, int_lt-true, int_lt-false}
+use Rattle.gtfs_days.specs.Service.{first_service_day, last_service_day}
 use Rattle.gtfs_advice.specs.Services.{begins_gap_of}
 use Rattle.gtfs_advice.specs.Seasons.{GoesOn}
 use Rattle.gtfs_advice.specs.ServedDays.{AreKnown, IsPart, IsQuiet, RunsOnServiceDays, days_before, gap_before}

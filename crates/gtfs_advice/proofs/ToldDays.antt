@@ -1,19 +1,18 @@
 -- What is told of days without service, where all days are known.
-use Rattle.std.proofs.Common.{◌≡◌, ◌∙◌, ◌+◌, ◌<◌, ◌++◌, ℕ, zero, suc, Bool, true, false, not, cond, List, [], ◌∷◌, Option, Some, None, length, get_or, filter, map, ℤ, pos, ◌+ℤ◌, ◌-ℤ◌, ◌<ℤ◌, ◌≤ℤ◌, int_le, int_lt, unsigned_abs, refl, sym, ap, subst, inl, inr, arith}
+use Rattle.std.proofs.Common.{◌≡◌, ◌∙◌, ◌<◌, ◌++◌, ℕ, zero, suc, Bool, true, false, not, cond, List, [], ◌∷◌, Option, Some, None, length, get_or, filter, map, ℤ, pos, ◌+ℤ◌, ◌-ℤ◌, ◌<ℤ◌, ◌≤ℤ◌, int_le, int_lt, refl, sym, ap, subst, inl, inr, arith}
 use Rattle.std.specs.Prelude.{◌&&◌, ◌||◌, IfOk, IfSome, OnOk, Ok, Err, Result, if◌then◌else◌}
-use Rattle.std.specs.List.{last_or, list_any, range_with_len, slice_get}
+use Rattle.std.specs.List.{last_or, list_any, slice_get}
 use Rattle.std.specs.Option.{option_map_or}
 use Rattle.std.specs.declared.alloc.AllocError.{AllocError}
-use Rattle.std.proofs.lemmas.Bool.{and_from, and_left, and_parts, and_right, cases_Bool, false≢true, not-true, both_ways}
+use Rattle.std.proofs.lemmas.Bool.{and_from, and_left, and_parts, and_right, cases_Bool, false≢true}
 use Rattle.std.proofs.lemmas.Int.{ints}
 use Rattle.std.proofs.lemmas.List.Folds.{list_any_at, list_any_none}
 use Rattle.std.proofs.lemmas.Option.{get_or_from_slice_get, slice_get_within}
 use Rattle.std.proofs.lemmas.Simd.{map-map}
 use Rattle.jiff_core.proofs.SignedLemmas.{signed_arith}
 use Rattle.gtfs_field.proofs.ListFacts.{any_mapped, mapped_at}
-use Rattle.gtfs_field.proofs.NumberFacts.{cases_int, int_le-true, int_lt-false, int_lt-true, le-int_le}
-use Rattle.gtfs_days.specs.Service.{first_service_day, is_active, is_service_day, last_service_day, service_days}
-use Rattle.gtfs_rows.specs.Content.{Content}
+use Rattle.gtfs_field.proofs.NumberFacts.{int_le-true, int_lt-false, int_lt-true, le-int_le}
+use Rattle.gtfs_days.specs.Service.{first_service_day, is_active, service_days}
 use Rattle.gtfs_rows.specs.Rows.{ServiceRow}
 use Rattle.gtfs_rows.specs.Views.{IsSoundParts, content_of_parts, service_of}
 use Rattle.gtfs_rows.specs.declared.parts.Parts.{Parts}
@@ -24,9 +23,9 @@ use Rattle.gtfs_advice.specs.declared.advice.Subject.{Subject}
 use Rattle.gtfs_advice.specs.declared.code.Code.{Code}
 use Rattle.gtfs_advice.specs.declared.code.Code.TheVariants as code
 use Rattle.gtfs_advice.specs.declared.served_days.ServedDays.{ServedDays}
-use Rattle.gtfs_advice.specs.Advice.{About, IsWithin, Tells, about_day, about_of, advice_of, day, end_advice, gap_advice, nothing}
-use Rattle.gtfs_advice.specs.ServedDays.{AreAllKnown, AreKnown, IsPart, days_before, end_of, end_said, gap_said, gaps_said, last_of}
-use Rattle.gtfs_advice.specs.Services.{begins_gap, begins_gap_of, ends_soon, gaps, is_served, is_used, last_served}
+use Rattle.gtfs_advice.specs.Advice.{About, IsWithin, Tells, about_day, about_of, advice_of, day, end_advice, gap_advice}
+use Rattle.gtfs_advice.specs.ServedDays.{AreAllKnown, days_before, end_of, end_said, gap_said, gaps_said, last_of}
+use Rattle.gtfs_advice.specs.Services.{begins_gap_of, ends_soon, gaps, is_served, is_used, last_served}
 use Rattle.gtfs_advice.specs.UsedServices.{AreServiceMarks}
 use Rattle.gtfs_advice.specs.Waiting.{IsServedBy, runs_on}
 use Rattle.gtfs_advice.proofs.Gaps.{all_before, any_day, ended, one_more}

@@ -1,6 +1,6 @@
 -- Which services have trips, by their numbers, and what is told of those without.
 use Rattle.std.proofs.Common.{◌≡◌, ◌∙◌, ◌+◌, ◌<◌, ◌≤◌, ◌++◌, ℕ, zero, suc, Bool, true, false, not, cond, List, [], ◌∷◌, Option, Some, None, length, get_or, map, take, refl, sym, ap, subst, arith}
-use Rattle.std.specs.Prelude.{◌==◌, ◌&&◌, ◌||◌, bytes_eq, filter, flat_map, if◌then◌else◌, nat_eq, nat_lt, option_map}
+use Rattle.std.specs.Prelude.{◌==◌, ◌&&◌, ◌||◌, bytes_eq, filter, if◌then◌else◌, nat_eq, nat_lt, option_map}
 use Rattle.std.specs.Option.{option_eq}
 use Rattle.std.specs.List.{list_all, list_any, slice_get, slice_set, zip}
 use Rattle.std.specs.declared.cmp.Ordering.TheVariants.{Less}
@@ -26,8 +26,7 @@ use Rattle.gtfs_rows.proofs.SoundOrder.{in_order}
 use Rattle.gtfs_advice.specs.declared.advice.Advice.{Advice}
 use Rattle.gtfs_advice.specs.declared.advice.Subject.TheVariants as subject
 use Rattle.gtfs_advice.specs.declared.code.Code.{Code}
-use Rattle.gtfs_advice.specs.Advice.{Rule, Tells, advice_on, answers_of, codes_of, row, said, told_about}
-use Rattle.gtfs_advice.specs.Marks.{AreMarks}
+use Rattle.gtfs_advice.specs.Advice.{Rule, Tells, advice_on, row, said, told_about}
 use Rattle.gtfs_advice.specs.Services.{has_no_trip}
 use Rattle.gtfs_advice.specs.UsedServices.{AreServiceMarks, is_trip_of, stands_under}
 use Rattle.gtfs_advice.proofs.Marking.{AreMarksSoFar, all-marked, named, none-more, one-marked}

@@ -1,6 +1,6 @@
 -- Services that wait for the walk over their days: what each step keeps.
-use Rattle.std.proofs.Common.{◌≡◌, ◌∙◌, ◌+◌, ◌<◌, ◌≤◌, ◌⊎◌, ℕ, Bool, true, false, cond, List, [], ◌∷◌, length, get_or, Option, Some, None, ℤ, pos, ◌+ℤ◌, ◌-ℤ◌, ◌<ℤ◌, ◌≤ℤ◌, int_cmp, int_le, unsigned_abs, refl, sym, ap, subst, inl, inr, arith}
-use Rattle.std.specs.Prelude.{◌&&◌, ◌||◌, All, sum_by, IfOk, MatchOption, OnOk, Ok, Err, Result, slice_get}
+use Rattle.std.proofs.Common.{◌≡◌, ◌∙◌, ◌+◌, ◌<◌, ◌≤◌, ℕ, Bool, true, false, List, [], ◌∷◌, length, get_or, Option, Some, None, ℤ, pos, ◌+ℤ◌, ◌-ℤ◌, ◌<ℤ◌, ◌≤ℤ◌, int_cmp, int_le, unsigned_abs, refl, sym, ap, subst, inl, inr, arith}
+use Rattle.std.specs.Prelude.{All, sum_by, IfOk, MatchOption, OnOk, Ok, Err, Result, slice_get}
 use Rattle.std.specs.BinaryHeap.{IsUpperBound}
 use Rattle.std.specs.List.{list_any}
 use Rattle.std.specs.List.Sorted.{IsPermutation}
@@ -17,7 +17,7 @@ use Rattle.std.proofs.lemmas.List.Sorted.{All-permutation, list_any-IsPermutatio
 use Rattle.std.proofs.lemmas.Option.{slice_get-get_or, slice_get_within}
 use Rattle.jiff_core.proofs.SignedLemmas.{signed_arith}
 use Rattle.gtfs_field.proofs.NumberFacts.{abs-above, cases_int, cases_up_to, int_le-true, le-int_le}
-use Rattle.gtfs_days.specs.Service.{IsFirst, IsFirstIfAny, first_service_day, is_active, is_service_day, last_service_day}
+use Rattle.gtfs_days.specs.Service.{IsFirstIfAny, first_service_day, is_active, is_service_day, last_service_day}
 use Rattle.gtfs_days.proofs.ActiveDays.{first_same}
 use Rattle.gtfs_rows.specs.declared.service.ServiceRow.{ServiceRow}
 use Rattle.gtfs_advice.specs.ServedDays.{AreAllKnown, AreKnown, IsPart, IsQuiet, RunsOnServiceDays}
@@ -180,13 +180,13 @@ module _ (services : List ServiceRow) (x : Wait) (waiting rest new : List Wait) 
       each = all_joined (runs_on services x.0.1) x.0.1 from rest new joined (λ w. IsPart (runs_on services w.0.1) served)
           (All-tail (λ w. IsPart (runs_on services w.0.1) served) x rest parts) (λ d on runs. parts 0 x (omega arith));
       all = λ d day_runs on. elim (or_cases (waits_for services d x) (list_any (waits_for services d) rest)
-      (sym (list_any-IsPermutation (waits_for services d) waiting (x ∷ rest) left) ∙ are.all d day_runs (omega (arith, signed_arith)))) [
-        | inr later ↦ any_joined (runs_on services x.0.1) x.0.1 from rest new joined (waits_for services d) later
-        | inl here ↦
-            let active = (and_parts (int_le x.0.0 d) (runs_on services x.0.1 d) here).1 in
-            one_joined (runs_on services x.0.1) x.0.1 from rest new joined (waits_for services d) d on active
-            (λ e upto. and_from (int_le e d) (runs_on services x.0.1 d) (le-int_le e d upto) active)
-      ];
+          (sym (list_any-IsPermutation (waits_for services d) waiting (x ∷ rest) left) ∙ are.all d day_runs (omega (arith, signed_arith)))) [
+            | inr later ↦ any_joined (runs_on services x.0.1) x.0.1 from rest new joined (waits_for services d) later
+            | inl here ↦
+                let active = (and_parts (int_le x.0.0 d) (runs_on services x.0.1 d) here).1 in
+                one_joined (runs_on services x.0.1) x.0.1 from rest new joined (waits_for services d) d on active
+                (λ e upto. and_from (int_le e d) (runs_on services x.0.1 d) (le-int_le e d upto) active)
+          ];
     }
 
 -- ---- at first

@@ -1,6 +1,6 @@
 -- Which services and days a reader would look at twice (GTFS Schedule Reference, calendar.txt and calendar_dates.txt).
 -- A day is its number: how many days it lies after 1970-01-01.
-use Rattle.std.specs.Prelude.{ℕ, ◌==◌, ◌&&◌, not, Bool, List, length, filter, bytes_eq, ℤ, pos, ◌+ℤ◌, ◌-ℤ◌, int_le, int_lt, Option, None, is_some}
+use Rattle.std.specs.Prelude.{◌==◌, ◌&&◌, not, Bool, List, length, filter, bytes_eq, ℤ, pos, ◌+ℤ◌, ◌-ℤ◌, int_le, int_lt, Option, None, is_some}
 use Rattle.std.specs.List.{last_or, list_any, range_with_len}
 use Rattle.gtfs_days.specs.Service.{is_active, service_days}
 use Rattle.gtfs_rows.specs.Content.{Content}

@@ -1,7 +1,6 @@
 -- Which services have trips.
 use Rattle.std.specs.Prelude.{ℕ, ◌==◌, ◌&&◌, not, Bool, true, false, List, [], length, bytes_eq, slice_index_or}
 use Rattle.std.specs.List.{list_any}
-use Rattle.gtfs_rows.specs.Content.{Content}
 use Rattle.gtfs_rows.specs.Rows.{ServiceRow, Trip}
 use Rattle.gtfs_rows.specs.Views.{content_of_parts, service_ids}
 use Rattle.gtfs_rows.specs.declared.parts.Parts.{Parts}

@@ -1,5 +1,5 @@
 -- Services that wait for the walk over their days.
-use Rattle.std.specs.Prelude.{◌≡◌, ◌==◌, ◌&&◌, ℕ, Bool, true, false, List, ◌∷◌, All, MatchOption, slice_get, slice_index_or, ℤ, ◌≤ℤ◌, int_le, Option, Some, None}
+use Rattle.std.specs.Prelude.{◌≡◌, ◌&&◌, ℕ, Bool, true, false, List, ◌∷◌, All, MatchOption, slice_get, slice_index_or, ℤ, ◌≤ℤ◌, int_le, Option}
 use Rattle.std.specs.List.{list_any}
 use Rattle.std.specs.List.Sorted.{IsPermutation}
 use Rattle.std.specs.Option.{option_map_or}

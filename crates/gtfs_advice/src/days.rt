@@ -54,11 +54,7 @@ fn tell_gaps(days: &ServedDays, told: &mut Vec<Advice>) -> Result<(), OutOfMemor
     Ok(())
 }
 
-fn tell_end(
-    days: &ServedDays,
-    day: Option<Day>,
-    told: &mut Vec<Advice>,
-) -> Result<(), OutOfMemory>
+fn tell_end(days: &ServedDays, day: Option<Day>, told: &mut Vec<Advice>) -> Result<(), OutOfMemory>
     ensures told { OnOk result (told.new.items ≡ told.old.items ++ end_said days.now day) }
     ensures low { IfSome day (λ d. first_service_day ≤ℤ d) }
 {

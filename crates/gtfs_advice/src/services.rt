@@ -48,7 +48,7 @@ fn tell_unused(
     requires { IsSoundParts parts.now }
     ensures { let c = content_of_parts parts.now in OnOk result (Tells parts.now
         (advice_on (λ s. s.service_id) ((code, has_no_trip c) ∷ [])
-            (filter (stands_under in_calendar) c.services))
+        (filter (stands_under in_calendar) c.services))
         told.old.items told.new.items) }
 {
     let marks = with_trips(alloc, parts, false)?;
@@ -94,16 +94,12 @@ fn tell_each(
     requires marks { AreServiceMarks parts.now false marks.now }
     ensures { let c = content_of_parts parts.now in OnOk result (Tells parts.now
         (advice_on (λ s. s.service_id)
-            ((code, λ s. stands_under in_calendar s && has_no_trip c s) ∷ []) c.services)
+        ((code, λ s. stands_under in_calendar s && has_no_trip c s) ∷ []) c.services)
         told.old.items told.new.items) }
 {
     for (number, row) in parts.services.as_slice().iter().enumerate() {
         let holds = lacks_trip(row, in_calendar, marks[number]);
-        tell(
-            told,
-            &Subject::Service(ServiceNo(number)),
-            &[(code, holds)],
-        )?;
+        tell(told, &Subject::Service(ServiceNo(number)), &[(code, holds)])?;
     }
     Ok(())
 }

@@ -58,11 +58,7 @@ fn walk(
 }
 
 // Each used service with the first day on which it runs.
-fn first_days(
-    alloc: Global,
-    services: &[ServiceRow],
-    used: &[bool],
-) -> Result<Waiting, OutOfMemory>
+fn first_days(alloc: Global, services: &[ServiceRow], used: &[bool]) -> Result<Waiting, OutOfMemory>
     requires { length used.now ≡ length services.now }
     ensures each { IfOk result (λ waiting. All (λ w. runs_on services.now w.0.1 w.0.0 ≡ true)
         (heap_items waiting)) }

@@ -1,4 +1,4 @@
-use Rattle.std.proofs.Common.{ℕ, pos, ◌+ℤ◌, ◌-ℤ◌, unsigned_abs}
+use Rattle.std.proofs.Common.{pos, ◌+ℤ◌, ◌-ℤ◌, unsigned_abs}
 use Rattle.gtfs_days.specs.Service.{is_active, last_service_day}
 use Rattle.gtfs_advice.specs.Seasons.{GoesOn}
 use Rattle.gtfs_advice.proofs.season.day_after_season.Given as goal

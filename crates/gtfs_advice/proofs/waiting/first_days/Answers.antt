@@ -1,4 +1,3 @@
-use Rattle.std.proofs.Common.{◌≡◌, ◌<◌, length, rules, subst, sym}
 use Rattle.std.specs.BinaryHeap.{heap_items}
 use Rattle.gtfs_advice.proofs.Waits.{each_runs_first, unused_waits, used_waits}
 use Rattle.gtfs_advice.proofs.waiting.first_days.Goals as goal

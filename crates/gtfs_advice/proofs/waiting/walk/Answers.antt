@@ -27,10 +27,9 @@ loop-next-preserved c =
       until = c.in_ok-follow.ensures.within;
       known = λ served on_days waited was_known.
           let so_far = c.loop-next.invariant.known served on_days waited was_known in
-          let until = c.loop-next.days.until in
-          (
+          let until = c.loop-next.days.until in (
             still_waiting services x waiting rest new left each row from joins served until so_far.0 c.in_ok-follow.ensures.onward,
             c.in_ok-follow.ensures.known served on_days (is_part services x waiting rest new left each row from joins served until so_far.0)
-            (quiet services served until x waiting so_far.0 (earliest x waiting first.1)) so_far.1
+                (quiet services served until x waiting so_far.0 (earliest x waiting first.1)) so_far.1,
           );
     }

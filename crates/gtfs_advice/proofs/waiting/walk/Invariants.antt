@@ -1,9 +1,8 @@
-use Rattle.std.proofs.Common.{◌≡◌, ◌≤ℤ◌, ◌+ℤ◌, ◌-ℤ◌, Bool, ℤ, pos, true, unsigned_abs}
+use Rattle.std.proofs.Common.{◌≡◌, ◌≤ℤ◌, ◌+ℤ◌, pos, true}
 use Rattle.std.specs.Prelude.{All, sum_by}
 use Rattle.std.specs.BinaryHeap.{IsHeap, heap_items}
 use Rattle.gtfs_days.specs.Service.{last_service_day}
-use Rattle.gtfs_advice.specs.ServedDays.{AreKnown, RunsOnServiceDays}
-use Rattle.gtfs_advice.specs.Waiting.{AreWaiting, runs_on, wait_cmp}
+use Rattle.gtfs_advice.specs.Waiting.{runs_on, wait_cmp}
 use Rattle.gtfs_advice.proofs.Waits.{IsWalked, days_left}
 use Rattle.gtfs_advice.proofs.waiting.walk.Given as goal
 

@@ -1,8 +1,8 @@
-use Rattle.std.proofs.Common.{◌≤ℤ◌, ap, refl, sym, ◌∙◌}
+use Rattle.std.proofs.Common.{◌≤ℤ◌, refl, sym}
 use Rattle.std.proofs.lemmas.Bool.{and_parts}
 use Rattle.std.specs.Prelude.{int_le}
 use Rattle.gtfs_field.proofs.NumberFacts.{int_le-true, int_lt-false}
-use Rattle.gtfs_days.specs.Service.{first_service_day, is_active, is_service_day, last_service_day}
+use Rattle.gtfs_days.specs.Service.{first_service_day, is_active, last_service_day}
 use Rattle.gtfs_advice.specs.declared.served_days.ServedDays.{ServedDays}
 use Rattle.gtfs_advice.proofs.KnownDays.{goes_on_part, known_after}
 use Rattle.gtfs_advice.proofs.served_days.ServedDays.follow.Goals as goal
