@@ -9,3 +9,7 @@ pub mod Codes
 pub mod Advice
 pub mod Marks
 pub mod Names
+pub mod Seasons
+pub mod ServedDays
+pub mod Waiting
+pub mod UsedServices

@@ -8,10 +8,15 @@
 mod advice;
 mod agencies;
 mod code;
+mod days;
 mod named_routes;
 mod routes;
+mod season;
+mod served_days;
+mod services;
 mod stops;
 mod texts;
+mod waiting;
 
 pub use advice::{Advice, Subject};
 pub use code::Code;
