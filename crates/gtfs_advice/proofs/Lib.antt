@@ -1,1 +1,4 @@
 mod Letters
+mod Windows
+mod Numbers
+mod Rows

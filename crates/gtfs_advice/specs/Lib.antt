@@ -8,3 +8,4 @@ pub mod Services
 pub mod Codes
 pub mod Advice
 pub mod Marks
+pub mod Steps

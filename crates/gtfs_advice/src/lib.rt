@@ -6,7 +6,9 @@
 #![tactic(auto)]
 
 mod advice;
+mod calls;
 mod code;
+mod stop_times;
 mod texts;
 
 pub use advice::{Advice, Subject};
