@@ -1,4 +1,6 @@
 mod Letters
+pub mod Telling
+pub mod Numbers
+pub mod Marking
 mod Windows
-mod Numbers
 mod Rows

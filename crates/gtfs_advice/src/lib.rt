@@ -6,9 +6,12 @@
 #![tactic(auto)]
 
 mod advice;
+mod agencies;
 mod calls;
 mod code;
+mod routes;
 mod stop_times;
+mod stops;
 mod texts;
 
 pub use advice::{Advice, Subject};

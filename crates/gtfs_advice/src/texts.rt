@@ -1,5 +1,7 @@
 ghost use Rattle.std.specs.Prelude.{◌≡◌};
-ghost use Rattle.gtfs_advice.specs.Texts.{ends_a_word, has_more_characters, is_garbled, is_lead, is_odd, lacks_scheme, repeats};
+ghost use Rattle.gtfs_advice.specs.Texts.{ends_a_word, has_more_characters, is_garbled, is_garbled_if_given, is_lead, is_odd, lacks_scheme, repeats};
+
+use gtfs_field::Text;
 
 // Whether a text has letters that were read in another encoding than they were written in.
 pub(crate) fn is_garbled(text: &str) -> bool
@@ -13,6 +15,13 @@ pub(crate) fn is_garbled(text: &str) -> bool
         is_behind_lead = is_lead(letter);
     }
     false
+}
+
+// The same of a text that may be missing.
+pub(crate) fn is_garbled_if_given(text: &Option<Text>) -> bool
+    ensures { result ≡ is_garbled_if_given text.now }
+{
+    text.as_ref().is_some_and(|text| is_garbled(text.as_str()))
 }
 
 // Whether a letter stands for what could not be read, or is the second of a pair.
