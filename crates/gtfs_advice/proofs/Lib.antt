@@ -4,3 +4,4 @@ pub mod Numbers
 pub mod Marking
 mod Windows
 mod Rows
+mod SameCourses

@@ -9,3 +9,4 @@ pub mod Codes
 pub mod Advice
 pub mod Marks
 pub mod Steps
+pub mod Courses

@@ -9,6 +9,7 @@ mod advice;
 mod agencies;
 mod calls;
 mod code;
+mod courses;
 mod routes;
 mod stop_times;
 mod stops;
