@@ -5,3 +5,5 @@ pub mod Marking
 mod Windows
 mod Rows
 mod SameCourses
+mod LastRows
+mod AlikeTrips

@@ -51,7 +51,7 @@ module _ (f : Row → StopRow) (test : StopRow → StopRow → Bool) (of_rows : 
 
 -- ---- stops
 
-abbrev IsWithin : Parts → Row → Type 0
+abbrev pub IsWithin : Parts → Row → Type 0
 IsWithin p r = r.stop_id.0 < length p.stops
 
 module _ (p : Parts) (sound : IsSoundParts p) where
@@ -61,7 +61,7 @@ module _ (p : Parts) (sound : IsSoundParts p) where
   count : length (stop_ids p) ≡ length p.stops
   count = length-map p.stops (λ s. s.stop_id)
 
-  one_stop : (r s : Row) → IsWithin p r → IsWithin p s → have_one_stop r s ≡ is_same_stop (stop_row_of p r) (stop_row_of p s)
+  pub one_stop : (r s : Row) → IsWithin p r → IsWithin p s → have_one_stop r s ≡ is_same_stop (stop_row_of p r) (stop_row_of p s)
   one_stop r s in_r in_s = same_number (stop_ids p) r.stop_id.0 s.stop_id.0 ids_ascend (omega (arith, count, in_r)) (omega (arith, count, in_s))
 
   -- the latitude at a row is that of its stop

@@ -10,10 +10,12 @@ mod agencies;
 mod calls;
 mod code;
 mod courses;
+mod frequencies;
 mod routes;
 mod stop_times;
 mod stops;
 mod texts;
+mod trips;
 
 pub use advice::{Advice, Subject};
 pub use code::Code;
