@@ -7,3 +7,6 @@ mod Rows
 mod SameCourses
 mod LastRows
 mod AlikeTrips
+mod AgencyFacts
+pub mod TripViews
+mod StopFacts
