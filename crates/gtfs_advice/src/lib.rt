@@ -11,6 +11,7 @@ mod calls;
 mod code;
 mod courses;
 mod frequencies;
+mod repeats;
 mod routes;
 mod stop_times;
 mod stops;
