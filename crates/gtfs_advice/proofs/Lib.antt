@@ -7,6 +7,7 @@ mod Rows
 mod SameCourses
 mod LastRows
 mod AlikeTrips
+mod RepeatMarks
 mod AgencyFacts
 pub mod TripViews
 mod StopFacts
