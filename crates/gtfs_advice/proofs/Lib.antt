@@ -8,6 +8,7 @@ mod SameCourses
 mod LastRows
 mod AlikeTrips
 mod RepeatMarks
+mod RepeatedTrips
 mod AgencyFacts
 pub mod TripViews
 mod StopFacts

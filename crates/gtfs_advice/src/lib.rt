@@ -11,7 +11,7 @@ mod calls;
 mod code;
 mod courses;
 mod frequencies;
-mod repeats;
+mod repeated_trips;
 mod routes;
 mod stop_times;
 mod stops;

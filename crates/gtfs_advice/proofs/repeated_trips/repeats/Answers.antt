@@ -1,7 +1,7 @@
 use Rattle.std.proofs.Common.{sym, ◌∙◌, ap, arith}
 use Rattle.gtfs_advice.proofs.RepeatMarks.{all-repeats, other-kept, repeat-marked}
-use Rattle.gtfs_advice.proofs.repeats.repeats.Goals.{then-is_repeat, else-is_repeat}
-use Rattle.gtfs_advice.proofs.repeats.repeats.Goals as goal
+use Rattle.gtfs_advice.proofs.repeated_trips.repeats.Goals.{then-is_repeat, else-is_repeat}
+use Rattle.gtfs_advice.proofs.repeated_trips.repeats.Goals as goal
 
 pub loop-place-preserved : goal.loop-place-preserved
 loop-place-preserved c =

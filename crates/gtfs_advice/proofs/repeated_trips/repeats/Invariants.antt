@@ -1,7 +1,7 @@
 use Rattle.std.proofs.Common.{◌-◌, length, false}
 use Rattle.gtfs_advice.specs.Courses.{neighbours, repeated}
 use Rattle.gtfs_advice.proofs.Marking.{AreMarksSoFar}
-use Rattle.gtfs_advice.proofs.repeats.repeats.Given as goal
+use Rattle.gtfs_advice.proofs.repeated_trips.repeats.Given as goal
 
 -- the neighbours so far marked their repeats
 abbrev pub invariant-loop-place : goal.invariant-loop-place
