@@ -9,6 +9,8 @@ mod LastRows
 mod AlikeTrips
 mod RepeatMarks
 mod RepeatedTrips
+mod TripTelling
+mod CourseLists
 mod AgencyFacts
 pub mod TripViews
 mod StopFacts

@@ -29,7 +29,7 @@ use Rattle.gtfs_rows.specs.declared.parts.Parts.{Parts}
 use Rattle.gtfs_rows.proofs.SameElements.{pairs-map}
 use Rattle.gtfs_rows.proofs.SoundOrder.{in_order, trip_ids-kept}
 use Rattle.gtfs_advice.specs.declared.courses.Course.{Course}
-use Rattle.gtfs_advice.specs.Courses.{AreCourses, IsCourse, course_cmp, is_repeat, listed_cmp, neighbours, repeated, repeats_one}
+use Rattle.gtfs_advice.specs.Courses.{AreCourses, AreRepeats, IsCourse, course_cmp, is_repeat, listed_cmp, neighbours, repeated, repeats_one}
 use Rattle.gtfs_advice.specs.Marks.{AreMarks}
 use Rattle.gtfs_advice.specs.Trips.{is_like, is_same_as_another}
 use Rattle.gtfs_advice.proofs.AlikeTrips.{alike, repeat}
@@ -92,7 +92,7 @@ module _ (p : Parts) (sound : IsSoundParts p) where
     moved : IsPermutation (range_with_len 0 (length p.trips)) (map (λ x. x.trip.0) sorted)
     moved = subst (λ ns. IsPermutation ns (map (λ x. x.trip.0) sorted)) are.numbers (IsPermutation-map (λ x. x.trip.0) xs sorted same)
 
-    pub courses_counted : length sorted ≡ length p.trips
+    courses_counted : length sorted ≡ length p.trips
     courses_counted = sym (length-map sorted (λ x. x.trip.0)) ∙ length_permutation (range_with_len 0 (length p.trips)) (map (λ x. x.trip.0) sorted) moved ∙ length-range_with_len 0 (length p.trips)
 
     -- where the trip of a number stands
@@ -210,8 +210,16 @@ module _ (p : Parts) (sound : IsSoundParts p) where
               (ap (test n) (get_or_from_slice_get (neighbours sorted) k (z, y) (z, y) there_k)
               ∙ ap (λ r. option_eq nat_eq (if r then Some y.trip.0 else None) (Some n)) repeats ∙ eq-eqb y.trip.0 n (is_n d))
 
-    pub are_repeats : (marks : List Bool) → AreMarks (length sorted) (repeats_one p.headsigns sorted) marks → (n : ℕ) (t : Trip) → slice_get (content_of_parts p).trips n ≡ Some t
+    are_repeats : (marks : List Bool) → AreMarks (length sorted) (repeats_one p.headsigns sorted) marks → (n : ℕ) (t : Trip) → slice_get (content_of_parts p).trips n ≡ Some t
         → get_or marks n false ≡ is_same_as_another (content_of_parts p) t
     are_repeats marks marked_so n t there =
         marked_so.at n (omega (arith, courses_counted, trips_counted, slice_get_within (content_of_parts p).trips n t there))
         ∙ same_test (repeats_one p.headsigns sorted n) (is_same_as_another (content_of_parts p) t) (marked n t there) (like n t there)
+
+    pub courses_within : All (λ x. x.trip.0 < length sorted) sorted
+    courses_within k d within =
+        let a = each k d within in
+        omega (arith, slice_get_within (content_of_parts p).trips (get_or sorted k d).trip.0 a.trip a.there, trips_counted, courses_counted)
+
+    pub all_repeats : (marks : List Bool) → AreMarks (length sorted) (repeats_one p.headsigns sorted) marks → AreRepeats p marks
+    all_repeats marks marked_so = record { count = marked_so.count ∙ courses_counted; at = are_repeats marks marked_so }

@@ -1,6 +1,6 @@
 -- Trips by what makes two of them the same: their route, service, stop times and frequencies. Two are the same where these compare
 -- as equal. Texts of headsigns stand by their numbers.
-use Rattle.std.specs.Prelude.{◌≡◌, ◌<◌, ◌==◌, ◌&&◌, not, if◌then◌else◌, ℕ, nat_eq, Bool, List, drop, length, map, Option, option_map, Some, None}
+use Rattle.std.specs.Prelude.{◌≡◌, ◌<◌, ◌==◌, ◌&&◌, not, if◌then◌else◌, ℕ, nat_eq, Bool, false, List, drop, length, map, slice_index_or, Option, option_map, Some, None}
 use Rattle.std.specs.Cmp.Lexicographic.{slice_cmp}
 use Rattle.std.specs.List.{All, list_any, range_with_len, slice_get, zip}
 use Rattle.std.specs.Option.{option_cmp, option_eq}
@@ -15,6 +15,7 @@ use Rattle.gtfs_rows.specs.declared.frequency.Frequency.{Frequency}
 use Rattle.gtfs_rows.specs.declared.parts.Parts.{Parts}
 use Rattle.gtfs_stop_times.specs.declared.stop_row.StopRow.{StopRow}
 use Rattle.gtfs_advice.specs.Steps.{GoesAlong}
+use Rattle.gtfs_advice.specs.Trips.{is_same_as_another}
 use Rattle.gtfs_advice.specs.declared.courses.Course.{Course}
 
 abbrev pub place_cmp : StopRow → StopRow → Ordering
@@ -77,3 +78,8 @@ repeated headsigns w = if is_repeat headsigns w.0 w.1 then Some w.1.trip.0 else 
 -- the trip of a number is a repeat of the one before it
 abbrev pub repeats_one : List (List ℕ) → List Course → ℕ → Bool
 repeats_one headsigns xs k = list_any (λ w. option_eq nat_eq (repeated headsigns w) (Some k)) (neighbours xs)
+
+-- at the number of each trip stands whether it has a stop time and is like an earlier trip
+pub record AreRepeats (p : Parts) (marks : List Bool) : Type 0 where
+  pub count : length marks ≡ length p.trips
+  pub at : (n : ℕ) (t : Trip) → slice_get (content_of_parts p).trips n ≡ Some t → slice_index_or marks n false ≡ is_same_as_another (content_of_parts p) t

@@ -1,12 +1,14 @@
-ghost use Rattle.std.specs.Prelude.{◌≡◌, IfOk, option_map};
+ghost use Rattle.std.specs.Prelude.{◌≡◌, ◌<◌, IfOk, length, option_map};
 ghost use Rattle.std.specs.Cmp.Lexicographic.{slice_cmp};
 ghost use Rattle.std.specs.List.Sorted.{IsPermutation, IsSorted};
 ghost use Rattle.gtfs_rows.specs.Choices.{timepoint_code};
 ghost use Rattle.gtfs_rows.specs.NamedRows.{text_of_number};
-ghost use Rattle.gtfs_advice.specs.Courses.{call_cmp, course_cmp, headsign_cmp, is_repeat, listed_cmp, period_cmp, place_cmp};
+ghost use Rattle.gtfs_advice.specs.Courses.{AreCourses, IsCourse, call_cmp, course_cmp, headsign_cmp, is_repeat, listed_cmp, period_cmp, place_cmp};
 
+use gtfs_feed::Feed;
 use gtfs_field::{OutOfMemory, Text};
 use gtfs_rows::{Frequency, HeadsignNo, OptionalHeadsign, RouteNo, ServiceNo, StopRow, Timepoint, TripNo};
+use std::alloc::Global;
 use std::cmp::Ordering;
 
 // What makes a trip the same as another one, and its number.
@@ -17,6 +19,36 @@ pub(crate) struct Course<'a> {
     pub rows: &'a [StopRow],
     pub periods: &'a [Frequency],
     pub trip: TripNo,
+}
+
+impl<'a> Course<'a> {
+    // That of a trip of the feed.
+    fn of(feed: &'a Feed, trip: TripNo) -> Course<'a>
+        requires { trip.0 < length feed.now.trips }
+        ensures trip { result.trip ≡ trip }
+        ensures course { IsCourse feed.now result }
+    {
+        feed.soundness();
+        let row = feed.trip_by_number(trip);
+        Course {
+            route: row.route_id,
+            service: row.service_id,
+            rows: feed.trip_rows(trip),
+            periods: feed.trip_frequencies(trip),
+            trip,
+        }
+    }
+}
+
+// Those of all trips, by their numbers.
+pub(crate) fn courses(alloc: Global, feed: &Feed) -> Result<Vec<Course<'_>>, OutOfMemory>
+    ensures { IfOk result (λ courses. AreCourses feed.now courses.items) }
+{
+    let mut courses = Vec::with_capacity(alloc, feed.trip_count())?;
+    for number in 0..feed.trip_count() {
+        courses.push(Course::of(feed, TripNo(number)))?;
+    }
+    Ok(courses)
 }
 
 // Trips that are the same stand one after the other, by their numbers.

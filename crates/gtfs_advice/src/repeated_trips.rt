@@ -1,14 +1,25 @@
 ghost use Rattle.std.specs.Prelude.{◌≡◌, ◌<◌, IfOk, length};
 ghost use Rattle.std.specs.List.{All};
-ghost use Rattle.gtfs_advice.specs.Courses.{repeats_one};
+ghost use Rattle.gtfs_advice.specs.Courses.{AreRepeats, repeats_one};
 ghost use Rattle.gtfs_advice.specs.Marks.{AreMarks};
 
-use crate::courses::{Course, is_repeat};
+use crate::courses::{Course, courses, in_order, is_repeat};
+use gtfs_feed::Feed;
 use gtfs_field::{OutOfMemory, Text};
 use std::alloc::Global;
 
+// Of each trip, by its number, whether it has a stop time and is like an earlier trip.
+pub(crate) fn repeated_trips(alloc: Global, feed: &Feed) -> Result<Vec<bool>, OutOfMemory>
+    ensures { IfOk result (λ marks. AreRepeats feed.now marks.items) }
+{
+    feed.soundness();
+    let headsigns = feed.parts().headsigns.as_slice();
+    let courses = in_order(courses(alloc, feed)?, headsigns)?;
+    repeats(alloc, &courses, headsigns)
+}
+
 // Of each trip, by its number, whether it is a repeat of the one that stands before it.
-pub(crate) fn repeats(
+fn repeats(
     alloc: Global,
     courses: &[Course<'_>],
     headsigns: &[Text],
