@@ -1,5 +1,5 @@
 -- Trips are alike exactly where they compare as equal.
-use Rattle.std.proofs.Common.{◌≡◌, ◌<◌, ◌∙◌, ℕ, Bool, true, List, [], ◌∷◌, length, map, Option, Some, None, refl, sym, ap, arith}
+use Rattle.std.proofs.Common.{◌≡◌, ◌∙◌, ℕ, Bool, List, [], ◌∷◌, length, map, Option, Some, None, refl, sym, ap, arith}
 use Rattle.std.specs.Prelude.{◌==◌, ◌&&◌, not, All, bytes_eq, nat_eq, option_map}
 use Rattle.std.specs.Cmp.{tied_then}
 use Rattle.std.specs.Cmp.Lexicographic.{slice_cmp}
@@ -16,7 +16,6 @@ use Rattle.gtfs_field.specs.TextOrder.{text_cmp}
 use Rattle.gtfs_field.proofs.TestFacts.{and_later}
 use Rattle.gtfs_rows.specs.Choices.{drop_off_code, exact_code, pickup_code, timepoint_code}
 use Rattle.gtfs_rows.specs.NamedRows.{text_of_number}
-use Rattle.gtfs_rows.specs.Rows.{StopRow}
 use Rattle.gtfs_rows.specs.Views.{IsSoundParts, frequency_of, route_ids, service_ids, stop_row_of}
 use Rattle.gtfs_rows.specs.declared.frequency.Frequency.{Frequency}
 use Rattle.gtfs_rows.specs.declared.parts.Parts.{Parts}
@@ -105,7 +104,7 @@ module _ (p : Parts) (x y : Course) (a : IsCourse p x) (b : IsCourse p y) where
       let periods = (λ i. pointwise is_same_period (a.periods i) (b.periods i))
       ∙ same_lists frequency_of is_same_period period_cmp (λ f. Unit {0}) (λ f g u v. same_period f g) x.periods.now y.periods.now (λ k d within. tt) (λ k d within. tt) in
       sym (and_later (bytes_eq a.trip.route_id b.trip.route_id && bytes_eq a.trip.service_id b.trip.service_id)
-        (pointwise is_same_call a.trip.stop_rows b.trip.stop_rows) (pointwise is_same_period a.trip.frequencies b.trip.frequencies))
+      (pointwise is_same_call a.trip.stop_rows b.trip.stop_rows) (pointwise is_same_period a.trip.frequencies b.trip.frequencies))
       ∙ two _ _ _ _ (two _ _ _ _ routes services) (two _ _ _ _ calls periods)
 
   -- a trip with a stop time that is like another one

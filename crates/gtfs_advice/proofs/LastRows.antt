@@ -1,5 +1,5 @@
 -- Which rows of a trip are not its last one.
-use Rattle.std.proofs.Common.{◌≡◌, ◌<◌, ◌≤◌, ◌+◌, ◌∙◌, ◌++◌, ℕ, Bool, true, false, List, [], ◌∷◌, length, map, get_or, Option, Some, None, refl, sym, ap, subst, arith, inl, inr}
+use Rattle.std.proofs.Common.{◌≡◌, ◌<◌, ◌∙◌, ◌++◌, ℕ, Bool, true, false, List, [], ◌∷◌, length, map, get_or, Option, Some, None, refl, sym, ap, subst, arith, inl, inr}
 use Rattle.std.specs.Prelude.{◌&&◌, ◌||◌, nat_lt, All, AllPairs, is_none, option_map}
 use Rattle.std.specs.List.{list_any}
 use Rattle.std.proofs.Math.Bool.{or-false}
@@ -71,10 +71,10 @@ without_last p all rest last t along is =
     let up = subst (AllPairs (λ r s. r.stop_sequence < s.stop_sequence)) is along.are.ascend in
     let rows = rest ++ last ∷ [] in
     sym (
-      ap of_rows (along.is ∙ ap (map f) is)
-      ∙ any_mapped (λ row. list_any (λ o. nat_lt row.stop_sequence o.stop_sequence) (map f rows) && is_none row.stop_headsign) f rows
-      ∙ any_alike (λ r. list_any (λ o. nat_lt r.stop_sequence o.stop_sequence) (map f rows) && is_none (f r).stop_headsign)
-        (λ r. list_any (λ o. nat_lt r.stop_sequence o.stop_sequence) rows && is_none r.stop_headsign) rows
-        (λ r i. any_mapped (λ o. nat_lt r.stop_sequence o.stop_sequence) f rows i && is_none-map (text_of_number p.headsigns) r.stop_headsign i)
-      ∙ but_last rest last up (λ r. is_none r.stop_headsign)
+    ap of_rows (along.is ∙ ap (map f) is)
+    ∙ any_mapped (λ row. list_any (λ o. nat_lt row.stop_sequence o.stop_sequence) (map f rows) && is_none row.stop_headsign) f rows
+    ∙ any_alike (λ r. list_any (λ o. nat_lt r.stop_sequence o.stop_sequence) (map f rows) && is_none (f r).stop_headsign)
+    (λ r. list_any (λ o. nat_lt r.stop_sequence o.stop_sequence) rows && is_none r.stop_headsign) rows
+    (λ r i. any_mapped (λ o. nat_lt r.stop_sequence o.stop_sequence) f rows i && is_none-map (text_of_number p.headsigns) r.stop_headsign i)
+    ∙ but_last rest last up (λ r. is_none r.stop_headsign)
     )

@@ -2,7 +2,6 @@
 use Rattle.std.proofs.Common.{◌≡◌, ◌<◌, ◌-◌, ◌∙◌, ℕ, suc, Bool, true, List, [], ◌∷◌, length, map, get_or, Option, Some, None, refl, sym, ap, arith}
 use Rattle.std.specs.Prelude.{◌||◌, ◌&&◌, ◌==◌, nat_eq, All, bytes_eq, find, is_some, option_and_then, ℤ}
 use Rattle.std.specs.List.{last_or, list_all, list_any, slice_get}
-use Rattle.std.specs.Ordering.{on}
 use Rattle.std.specs.declared.cmp.Ordering.TheVariants.{Less}
 use Rattle.std.proofs.Math.Bool.{and-true}
 use Rattle.std.proofs.lemmas.List.{get_or-map, length-map}
@@ -18,7 +17,6 @@ use Rattle.gtfs_rows.specs.Runs.{first_leaves, is_timed}
 use Rattle.gtfs_rows.specs.Trips.{left_at, reached_at}
 use Rattle.gtfs_rows.specs.Views.{IsSoundParts, content_of_parts, stop_ids, stop_of, stop_row_of, text_of_number}
 use Rattle.gtfs_rows.specs.declared.parts.Parts.{Parts}
-use Rattle.gtfs_rows.specs.declared.stop.Stop.{Stop}
 use Rattle.gtfs_rows.proofs.SameElements.{pairs-map}
 use Rattle.gtfs_rows.proofs.SoundOrder.{in_order}
 use Rattle.gtfs_stop_times.specs.declared.stop_row.StopRow.{StopRow as Row}

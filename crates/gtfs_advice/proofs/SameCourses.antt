@@ -1,5 +1,5 @@
 -- The order of trips by what makes two of them the same.
-use Rattle.std.proofs.Common.{◌≡◌, List, ℕ, option_map}
+use Rattle.std.proofs.Common.{List, ℕ, option_map}
 use Rattle.std.specs.Cmp.{IsTotalOrder}
 use Rattle.std.specs.Cmp.Lexicographic.{options_total}
 use Rattle.std.proofs.lemmas.Cmp.{lists_total, nat_cmp_total, on_total, then_total}

@@ -1,6 +1,6 @@
 -- The trips of a feed by their numbers, and what was told of them so far.
-use Rattle.std.proofs.Common.{◌≡◌, ◌∙◌, ◌+◌, ◌<◌, ◌≤◌, ◌++◌, ℕ, Bool, List, [], length, map, get_or, take, Option, Some, refl, sym, ap, subst, arith}
-use Rattle.std.specs.List.{range_with_len, slice_get}
+use Rattle.std.proofs.Common.{◌≡◌, ◌∙◌, ◌+◌, ◌<◌, ◌≤◌, ◌++◌, ℕ, Bool, List, [], length, map, get_or, take, Some, refl, sym, ap, subst, arith}
+use Rattle.std.specs.List.{slice_get}
 use Rattle.std.proofs.lemmas.Option.{same_Some, slice_get-get_or}
 use Rattle.gtfs_field.proofs.ListFacts.{some_of}
 use Rattle.gtfs_table.proofs.PartFacts.{length-parts}

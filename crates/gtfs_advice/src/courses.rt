@@ -7,7 +7,9 @@ ghost use Rattle.gtfs_advice.specs.Courses.{AreCourses, IsCourse, call_cmp, cour
 
 use gtfs_feed::Feed;
 use gtfs_field::{OutOfMemory, Text};
-use gtfs_rows::{Frequency, HeadsignNo, OptionalHeadsign, RouteNo, ServiceNo, StopRow, Timepoint, TripNo};
+use gtfs_rows::{
+    Frequency, HeadsignNo, OptionalHeadsign, RouteNo, ServiceNo, StopRow, Timepoint, TripNo,
+};
 use std::alloc::Global;
 use std::cmp::Ordering;
 
@@ -97,9 +99,10 @@ fn rows_order(headsigns: &[Text], a: &[StopRow], b: &[StopRow]) -> Ordering
     ensures { result ≡ slice_cmp (call_cmp headsigns.now) a.now b.now }
 {
     let (mut left, mut right) = (a, b);
-    while let (Some((row, left_rest)), Some((other, right_rest))) =
-        (left.split_first(), right.split_first())
-    {
+    while let (Some((row, left_rest)), Some((other, right_rest))) = (
+        left.split_first(),
+        right.split_first(),
+    ) {
         let order = call_order(headsigns, row, other);
         if order.is_ne() {
             return order;
@@ -176,9 +179,10 @@ fn periods_order(a: &[Frequency], b: &[Frequency]) -> Ordering
     ensures { result ≡ slice_cmp period_cmp a.now b.now }
 {
     let (mut left, mut right) = (a, b);
-    while let (Some((period, left_rest)), Some((other, right_rest))) =
-        (left.split_first(), right.split_first())
-    {
+    while let (Some((period, left_rest)), Some((other, right_rest))) = (
+        left.split_first(),
+        right.split_first(),
+    ) {
         let order = period_order(period, other);
         if order.is_ne() {
             return order;

@@ -46,6 +46,9 @@ fn has_period_of_one_run(periods: &[Frequency]) -> bool
 fn has_single_run(period: &Frequency) -> bool
     ensures { result ≡ has_single_run (frequency_of period.now) }
 {
-    let length = period.end_time.seconds().saturating_sub(period.start_time.seconds());
+    let length = period
+        .end_time
+        .seconds()
+        .saturating_sub(period.start_time.seconds());
     length <= period.headway_secs
 }

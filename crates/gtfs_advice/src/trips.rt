@@ -72,7 +72,10 @@ fn lacks_headsign(trip: &Trip, rows: &[StopRow]) -> bool
     let Some((_, rows_before)) = rows.split_last() else {
         return false;
     };
-    trip.trip_headsign.is_none() && rows_before.iter().any(|row| row.stop_headsign.get().is_none())
+    trip.trip_headsign.is_none()
+        && rows_before
+            .iter()
+            .any(|row| row.stop_headsign.get().is_none())
 }
 
 fn has_garbled_headsign(trip: &Trip) -> bool

@@ -1,4 +1,4 @@
-use Rattle.std.proofs.Common.{◌<◌, ◌≡◌, ◌∙◌, ap, length, subst, sym}
+use Rattle.std.proofs.Common.{◌<◌, ◌∙◌, ap, length, subst, sym}
 use Rattle.std.specs.Prelude.{All}
 use Rattle.std.specs.List.Sorted.{IsSorted}
 use Rattle.std.proofs.lemmas.Result.{IfOk-weaker}
@@ -26,7 +26,7 @@ returns c =
     let ys = c.deref.result.now in
     IfOk-weaker c.repeats.result (λ marks. AreMarks (length ys) (repeats_one hs ys) marks.items) (λ marks. AreRepeats p marks.items)
     (λ marks marked.
-        let there = subst (λ xs. AreMarks (length xs) (repeats_one hs xs) marks.items) c.deref.ensures.value marked in
-        all_repeats p c.soundness.ensures c.in_ok-courses.field-0.items sorted c.in_ok-courses.ensures c.in_ok-courses-2.ensures.same up marks.items
-        (subst (λ texts. AreMarks (length sorted) (repeats_one texts sorted) marks.items) headsigns there))
+    let there = subst (λ xs. AreMarks (length xs) (repeats_one hs xs) marks.items) c.deref.ensures.value marked in
+    all_repeats p c.soundness.ensures c.in_ok-courses.field-0.items sorted c.in_ok-courses.ensures c.in_ok-courses-2.ensures.same up marks.items
+    (subst (λ texts. AreMarks (length sorted) (repeats_one texts sorted) marks.items) headsigns there))
     c.repeats.ensures
