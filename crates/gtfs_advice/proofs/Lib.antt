@@ -13,4 +13,8 @@ mod TripTelling
 mod CourseLists
 mod AgencyFacts
 pub mod TripViews
+pub mod Repeats
+mod NamedRoutes
+mod NamedAsOthers
+mod RouteFacts
 mod StopFacts

@@ -10,3 +10,4 @@ pub mod Advice
 pub mod Marks
 pub mod Steps
 pub mod Courses
+pub mod Names

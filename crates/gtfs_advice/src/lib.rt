@@ -11,6 +11,7 @@ mod calls;
 mod code;
 mod courses;
 mod frequencies;
+mod named_routes;
 mod repeated_trips;
 mod routes;
 mod stop_times;
