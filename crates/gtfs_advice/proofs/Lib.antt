@@ -2,6 +2,15 @@ mod Letters
 pub mod Telling
 pub mod Numbers
 pub mod Marking
+mod Windows
+mod Rows
+mod SameCourses
+mod LastRows
+mod AlikeTrips
+mod RepeatMarks
+mod RepeatedTrips
+mod TripTelling
+mod CourseLists
 mod AgencyFacts
 pub mod TripViews
 pub mod Repeats

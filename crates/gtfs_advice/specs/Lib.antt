@@ -8,6 +8,8 @@ pub mod Services
 pub mod Codes
 pub mod Advice
 pub mod Marks
+pub mod Steps
+pub mod Courses
 pub mod Names
 pub mod Seasons
 pub mod ServedDays
