@@ -3,7 +3,7 @@ use Rattle.std.proofs.Common.{◌≡◌, ◌∙◌, ◌+◌, ◌<◌, ◌≤◌,
 use Rattle.std.specs.Prelude.{filter, flat_map}
 use Rattle.std.specs.List.{All, slice_get}
 use Rattle.std.proofs.lemmas.Grind.{flat_map-append}
-use Rattle.std.proofs.lemmas.List.{map-append, take_all, take_more}
+use Rattle.std.proofs.lemmas.List.{append-nil, map-append, take_all, take_more}
 use Rattle.std.proofs.lemmas.List.Elements.{All-append}
 use Rattle.std.proofs.lemmas.Option.{get_or_from_slice_get, slice_get-get_or, slice_get_within}
 use Rattle.gtfs_rows.specs.declared.parts.Parts.{Parts}
@@ -11,10 +11,6 @@ use Rattle.gtfs_advice.specs.declared.advice.Advice.{Advice}
 use Rattle.gtfs_advice.specs.declared.advice.Subject.{Subject}
 use Rattle.gtfs_advice.specs.declared.code.Code.{Code}
 use Rattle.gtfs_advice.specs.Advice.{About, IsWithin, Rule, Tells, about_of, advice_of, advice_on, answers_of, codes_of, row, said, told_about}
-
-append-nil : {X : Type 0} (xs : List X) → xs ++ [] ≡ xs
-append-nil [] = refl
-append-nil (x ∷ xs) = ap (λ ys. x ∷ ys) (append-nil xs)
 
 -- the item of a loop over a list that was lent
 pub item_at : {X : Type 0} (xs items : List X) (n : ℕ) (x : X) → items ≡ xs → n < length items → x ≡ get_or items n x → slice_get xs n ≡ Some x

@@ -6,12 +6,12 @@
 #![tactic(auto)]
 
 mod advice;
-mod advise;
 mod agencies;
 mod calls;
 mod code;
 mod courses;
 mod days;
+mod files;
 mod frequencies;
 mod named_routes;
 mod repeated_trips;
@@ -26,5 +26,5 @@ mod trips;
 mod waiting;
 
 pub use advice::{Advice, Subject};
-pub use advise::advise;
 pub use code::Code;
+pub use files::advise;
