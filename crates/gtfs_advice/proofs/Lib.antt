@@ -17,3 +17,9 @@ mod NamedRoutes
 mod NamedAsOthers
 mod RouteFacts
 mod StopFacts
+mod Seasons
+mod Gaps
+mod KnownDays
+mod Waits
+mod UsedFacts
+mod ToldDays

@@ -154,3 +154,10 @@ module _ (p : Parts) (sound : IsSoundParts p) where
         ∙ ap (λ ms. get_or ms n false) (sym are_repeated) in
         told-more p (λ x. x.route_id) (route_rules c) c.routes n (route_of p r) (subject.Route (record { 0 = n })) answers old before after (mapped_at (route_of p) p.routes n r there) (ap row id) within
         (right (of_route true directed are_directed) (of_route false undirected are_undirected) named_so) behind so_far
+
+-- marks that were made of what the parts lent
+pub lent : (p : Parts) (directed : Bool) (n : ℕ) (ts : List TripRow) (made marks : List Bool) → n ≡ length p.routes → ts ≡ p.trips → marks ≡ made
+    → AreMarks n (λ k. list_any (λ t. option_eq nat_eq (route_if directed t) (Some k)) ts) made → AreMarks (length p.routes) (λ k. list_any (λ t. option_eq nat_eq (route_if directed t) (Some k)) p.trips) marks
+lent p directed n ts made marks size trips kept are =
+    let test = λ (us : List TripRow) (k : ℕ). list_any (λ t. option_eq nat_eq (route_if directed t) (Some k)) us in
+    subst (λ m. AreMarks (length p.routes) (test p.trips) m) (sym kept) (subst (λ us. AreMarks (length p.routes) (test us) made) trips (subst (λ m. AreMarks m (test ts) made) size are))

@@ -11,3 +11,7 @@ pub mod Marks
 pub mod Steps
 pub mod Courses
 pub mod Names
+pub mod Seasons
+pub mod ServedDays
+pub mod Waiting
+pub mod UsedServices

@@ -9,11 +9,26 @@ ghost use Rattle.gtfs_advice.specs.Marks.{AreMarks};
 use crate::advice::{Advice, Subject, tell};
 use crate::code::Code;
 use crate::texts::{is_garbled, lacks_scheme};
+use gtfs_feed::Feed;
 use gtfs_field::OutOfMemory;
 use gtfs_rows::{Agency, AgencyNo, Parts, Route};
 use std::alloc::Global;
 
-// Tells the advice on each agency, where its mark says whether a route is of it.
+// Tells the advice on agencies.
+pub(crate) fn tell_agencies(
+    alloc: Global,
+    feed: &Feed,
+    told: &mut Vec<Advice>,
+) -> Result<(), OutOfMemory>
+    ensures { OnOk result (Tells feed.now (agency_advice (content_of_parts feed.now))
+        told.old.items told.new.items) }
+{
+    let parts = feed.parts();
+    let marks = with_routes(alloc, parts.agencies.len(), parts.routes.as_slice())?;
+    tell_each(parts, &marks, told)
+}
+
+// The same of each agency, where its mark says whether a route is of it.
 fn tell_each(parts: &Parts, marks: &[bool], told: &mut Vec<Advice>) -> Result<(), OutOfMemory>
     requires sound { IsSoundParts parts.now }
     requires marks { AreMarks (length parts.now.agencies)

@@ -6,18 +6,25 @@
 #![tactic(auto)]
 
 mod advice;
+mod advise;
 mod agencies;
 mod calls;
 mod code;
 mod courses;
+mod days;
 mod frequencies;
 mod named_routes;
 mod repeated_trips;
 mod routes;
+mod season;
+mod served_days;
+mod services;
 mod stop_times;
 mod stops;
 mod texts;
 mod trips;
+mod waiting;
 
 pub use advice::{Advice, Subject};
+pub use advise::advise;
 pub use code::Code;

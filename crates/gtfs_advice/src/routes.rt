@@ -10,10 +10,29 @@ ghost use Rattle.gtfs_advice.specs.Routes.{brightness, has_close_colours, is_gar
 
 use crate::advice::{Advice, Subject, tell};
 use crate::code::Code;
+use crate::named_routes::named_as_others;
 use crate::texts::{has_more_characters, is_garbled_if_given, repeats};
+use gtfs_feed::Feed;
 use gtfs_field::{Colour, OutOfMemory};
 use gtfs_rows::{Parts, Route, RouteNo, Trip};
 use std::alloc::Global;
+
+// Tells the advice on routes.
+pub(crate) fn tell_routes(
+    alloc: Global,
+    feed: &Feed,
+    told: &mut Vec<Advice>,
+) -> Result<(), OutOfMemory>
+    ensures { OnOk result (Tells feed.now (route_advice (content_of_parts feed.now))
+        told.old.items told.new.items) }
+{
+    let parts = feed.parts();
+    let (routes, trips) = (parts.routes.len(), parts.trips.as_slice());
+    let directed = with_trips(alloc, routes, trips, true)?;
+    let undirected = with_trips(alloc, routes, trips, false)?;
+    let repeated = named_as_others(alloc, parts)?;
+    tell_each(parts, &directed, &undirected, &repeated, told)
+}
 
 // What the rows of others say of a route.
 #[derive(Clone, Copy)]
@@ -25,7 +44,7 @@ struct Mentions {
     is_repeated: bool,
 }
 
-// Tells the advice on each route, where its marks say what the rows of others say of it.
+// The same of each route, where its marks say what the rows of others say of it.
 fn tell_each(
     parts: &Parts,
     directed: &[bool],

@@ -12,11 +12,27 @@ ghost use Rattle.gtfs_advice.specs.Stops.{calls_at, differ_by_more, is_far, is_f
 use crate::advice::{Advice, Subject, tell};
 use crate::code::Code;
 use crate::texts::is_garbled_if_given;
+use gtfs_feed::Feed;
 use gtfs_field::{Coord, OutOfMemory};
 use gtfs_rows::{LocationType, Parts, Stop, StopNo, StopRow};
 use std::alloc::Global;
 
-// Tells the advice on each stop, where its marks say whether a stop time names it, and whether a
+// Tells the advice on stops.
+pub(crate) fn tell_stops(
+    alloc: Global,
+    feed: &Feed,
+    told: &mut Vec<Advice>,
+) -> Result<(), OutOfMemory>
+    ensures { OnOk result (Tells feed.now (stop_advice (content_of_parts feed.now))
+        told.old.items told.new.items) }
+{
+    let parts = feed.parts();
+    let called = with_calls(alloc, parts)?;
+    let peopled = with_stops(alloc, parts)?;
+    tell_each(parts, &called, &peopled, told)
+}
+
+// The same of each stop, where its marks say whether a stop time names it, and whether a
 // stop or platform belongs to it.
 fn tell_each(
     parts: &Parts,
