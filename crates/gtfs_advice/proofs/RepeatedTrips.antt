@@ -122,5 +122,5 @@ module _ (p : Parts) (sound : IsSoundParts p) where
     all_repeats marks marked_so = record {
       count = marked_so.count ∙ sorted_counted;
       at = λ n t there.
-      marked_so.at n (omega (arith, sorted_counted, trips_counted, slice_get_within (content_of_parts p).trips n t there)) ∙ marked n t there;
+          marked_so.at n (omega (arith, sorted_counted, trips_counted, slice_get_within (content_of_parts p).trips n t there)) ∙ marked n t there;
     }
