@@ -1,6 +1,6 @@
 -- Trips are alike exactly where they compare as equal.
 use Rattle.std.proofs.Common.{◌≡◌, ◌∙◌, ℕ, Bool, List, [], ◌∷◌, length, map, Option, Some, None, refl, sym, ap, arith}
-use Rattle.std.specs.Prelude.{◌==◌, ◌&&◌, not, All, bytes_eq, nat_eq, option_map}
+use Rattle.std.specs.Prelude.{◌==◌, ◌&&◌, All, bytes_eq, nat_eq, option_map}
 use Rattle.std.specs.Cmp.{tied_then}
 use Rattle.std.specs.Cmp.Lexicographic.{slice_cmp}
 use Rattle.std.specs.Option.{option_cmp, option_eq}
@@ -23,7 +23,7 @@ use Rattle.gtfs_rows.proofs.SameElements.{pairs-map}
 use Rattle.gtfs_rows.proofs.SoundOrder.{in_order}
 use Rattle.gtfs_stop_times.specs.declared.stop_row.StopRow.{StopRow as Row}
 use Rattle.gtfs_advice.specs.declared.courses.Course.{Course}
-use Rattle.gtfs_advice.specs.Courses.{IsCourse, call_cmp, course_cmp, is_repeat, period_cmp}
+use Rattle.gtfs_advice.specs.Courses.{IsCourse, call_cmp, course_cmp, period_cmp}
 use Rattle.gtfs_advice.specs.StopTimes.{is_same_stop}
 use Rattle.gtfs_advice.specs.Trips.{is_like, is_same_call, is_same_period}
 use Rattle.gtfs_advice.proofs.Numbers.{same_number}
@@ -106,9 +106,3 @@ module _ (p : Parts) (x y : Course) (a : IsCourse p x) (b : IsCourse p y) where
       sym (and_later (bytes_eq a.trip.route_id b.trip.route_id && bytes_eq a.trip.service_id b.trip.service_id)
       (pointwise is_same_call a.trip.stop_rows b.trip.stop_rows) (pointwise is_same_period a.trip.frequencies b.trip.frequencies))
       ∙ two _ _ _ _ (two _ _ _ _ routes services) (two _ _ _ _ calls periods)
-
-  -- a trip with a stop time that is like another one
-  pub repeat : is_repeat p.headsigns x y ≡ (not (length b.trip.stop_rows == 0) && is_like b.trip a.trip)
-  repeat =
-      let count : length y.rows.now ≡ length b.trip.stop_rows = sym (length-map y.rows.now (stop_row_of p)) ∙ sym (ap length b.along.is) in
-      λ i. not (count i == 0) && sym alike i

@@ -7,7 +7,6 @@ mod Rows
 mod SameCourses
 mod LastRows
 mod AlikeTrips
-mod RepeatMarks
 mod RepeatedTrips
 mod TripTelling
 mod CourseLists

@@ -35,7 +35,7 @@ use Rattle.gtfs_advice.proofs.Repeats.{distinct_numbers, is_repeated_of, moved_t
 
 -- ---- lists
 
-any-paired : {X Y : Type 0} (p : X → Bool) (q : Y → Bool) (xs : List X) (ys : List Y) → length xs ≡ length ys
+pub any-paired : {X Y : Type 0} (p : X → Bool) (q : Y → Bool) (xs : List X) (ys : List Y) → length xs ≡ length ys
     → ((k : ℕ) (x : X) (y : Y) → slice_get xs k ≡ Some x → slice_get ys k ≡ Some y → p x ≡ q y) → list_any p xs ≡ list_any q ys
 any-paired p q [] [] e same = refl
 any-paired p q [] (y ∷ ys) e same = absurd (omega arith)
@@ -62,7 +62,7 @@ same-name None (Some b) = refl
 same-name (Some a) None = refl
 same-name (Some a) (Some b) = is_eq-slice_cmp a.now b.now
 
-number-if : (b : Bool) (m n : ℕ) → option_eq nat_eq (cond b (Some m) None) (Some n) ≡ (b && (m == n))
+pub number-if : (b : Bool) (m n : ℕ) → option_eq nat_eq (cond b (Some m) None) (Some n) ≡ (b && (m == n))
 number-if true m n = refl
 number-if false m n = refl
 

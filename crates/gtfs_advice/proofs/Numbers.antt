@@ -31,7 +31,7 @@ numbers ids i j up in_i in_j = elim (cases_order i j) [
 is_eq-nat : (i j : ℕ) → is_eq (nat_cmp i j) ≡ (i == j)
 is_eq-nat i j = grind (arith, nat_tests)
 
-pub is_lt-nat : (i j : ℕ) → is_lt (nat_cmp i j) ≡ nat_lt i j
+is_lt-nat : (i j : ℕ) → is_lt (nat_cmp i j) ≡ nat_lt i j
 is_lt-nat i j = grind (arith, nat_tests)
 
 -- one number, one id
