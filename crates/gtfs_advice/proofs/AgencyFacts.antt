@@ -1,10 +1,10 @@
 -- Agencies of sound parts, by their numbers and by their ids.
-use Rattle.std.proofs.Common.{◌≡◌, ◌∙◌, ◌+◌, ◌<◌, ◌++◌, ℕ, Bool, true, false, List, Some, length, map, get_or, take, refl, sym, ap, subst, arith}
+use Rattle.std.proofs.Common.{◌≡◌, ◌∙◌, ◌+◌, ◌<◌, ◌++◌, ℕ, Bool, true, false, List, Some, length, get_or, take, sym, ap, subst, arith}
 use Rattle.std.specs.Prelude.{◌==◌, not, bytes_eq, nat_lt}
 use Rattle.std.specs.List.{list_all, list_any, slice_get}
 use Rattle.std.specs.declared.cmp.Ordering.TheVariants.{Less}
 use Rattle.std.proofs.lemmas.List.{length-map}
-use Rattle.std.proofs.lemmas.Option.{get_or_from_slice_get, slice_get-get_or, slice_get_within}
+use Rattle.std.proofs.lemmas.Option.{get_or_from_slice_get, slice_get_within}
 use Rattle.gtfs_field.specs.TextOrder.{text_cmp}
 use Rattle.gtfs_field.proofs.ListFacts.{any_mapped, mapped_at}
 use Rattle.gtfs_rows.specs.declared.agency.Agency.{Agency}

@@ -1,12 +1,12 @@
 -- Flags by number, from one row to the next.
 use Rattle.std.proofs.Common.{◌≡◌, ◌∙◌, ◌+◌, ◌<◌, ◌≤◌, ◌++◌, ℕ, Bool, true, false, List, [], ◌∷◌, Option, Some, None, length, get_or, take, refl, sym, ap, subst, arith, inl, inr}
-use Rattle.std.specs.Prelude.{◌||◌, bytes_eq, nat_eq, option_map, replicate}
+use Rattle.std.specs.Prelude.{◌||◌, bytes_eq, nat_eq, option_map}
 use Rattle.std.specs.Option.{option_eq}
 use Rattle.std.specs.List.{list_all, list_any, slice_get, slice_set}
 use Rattle.std.proofs.lemmas.Bool.{and_parts, ltb-true, or_right}
 use Rattle.std.proofs.lemmas.Bool.Decides.{eqb_tells}
 use Rattle.std.proofs.lemmas.Grind.{get_or-set_at}
-use Rattle.std.proofs.lemmas.List.{get_or-replicate, get_or-set_other, length-replicate, length-set, take_all, take_more}
+use Rattle.std.proofs.lemmas.List.{get_or-set_other, length-set, take_all, take_more}
 use Rattle.std.proofs.lemmas.List.Folds.{list_any-append}
 use Rattle.std.proofs.lemmas.Option.{get_or_from_slice_get, slice_get_within}
 use Rattle.gtfs_field.specs.TextOrder.{text_cmp}
@@ -56,7 +56,7 @@ module _ {X : Type 0} (number : X → Option ℕ) where
     none-more n x before after there is same so_far = record {
       count = ap length same ∙ so_far.count;
       at = λ k within. ap (λ ms. get_or ms k false) same ∙ so_far.at k within
-      ∙ sym (ap (λ b. old k || b) (more n x k there ∙ ap (λ o. list_any (has_number k) (take n xs) || option_eq nat_eq o (Some k)) is ∙ or-none (list_any (has_number k) (take n xs))));
+          ∙ sym (ap (λ b. old k || b) (more n x k there ∙ ap (λ o. list_any (has_number k) (take n xs) || option_eq nat_eq o (Some k)) is ∙ or-none (list_any (has_number k) (take n xs))));
     }
 
     pub all-marked : (n : ℕ) (marks : List Bool) → length xs ≤ n → AreMarksSoFar n marks → AreMarks size (λ k. old k || list_any (has_number k) xs) marks

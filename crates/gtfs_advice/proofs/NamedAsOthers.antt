@@ -1,8 +1,8 @@
 -- A route stands behind one with its names exactly where it is named as another one.
-use Rattle.std.proofs.Common.{◌≡◌, ◌≢◌, ◌∙◌, ◌+◌, ◌<◌, ◌≤◌, ℕ, zero, suc, Bool, true, false, cond, List, [], ◌∷◌, Option, Some, None, Bor, length, map, get_or, refl, sym, ap, subst, arith}
+use Rattle.std.proofs.Common.{◌≡◌, ◌≢◌, ◌∙◌, ◌<◌, ℕ, suc, Bool, true, false, cond, List, [], ◌∷◌, Option, Some, None, Bor, length, map, get_or, refl, sym, ap, subst, arith}
 use Rattle.std.specs.Prelude.{◌==◌, ◌&&◌, ◌||◌, All, AllPairs, bytes_eq, nat_eq, nat_lt, option_map}
 use Rattle.std.specs.Cmp.{tied_then}
-use Rattle.std.specs.List.{list_all, list_any, range_with_len, slice_get}
+use Rattle.std.specs.List.{list_any, range_with_len, slice_get}
 use Rattle.std.specs.List.Sorted.{IsPermutation, IsSorted}
 use Rattle.std.specs.Option.{option_cmp, option_eq}
 use Rattle.std.specs.Ordering.{is_eq, is_lt, nat_cmp, ordering_then}
@@ -114,7 +114,7 @@ module _ (p : Parts) (sound : IsSoundParts p) where
       let d = option_cmp (λ (u : Bor (List ℕ)) (v : Bor (List ℕ)). text_cmp u.now v.now) y.long_name x.long_name in
       let split : is_eq (name_cmp y x) ≡ (((is_eq a && is_eq b) && is_eq c) && is_eq d) =
       sym (ap (λ t. ((t && is_eq c) && is_eq d)) (tied_then a b) ∙ ap (λ t. t && is_eq d) (tied_then (ordering_then a b) c) ∙ tied_then (ordering_then (ordering_then a b) c) d) in
-      ap (λ t. t && nat_lt y.number x.number) split ∙ (λ i. (((agency i && kind i) && short i) && long i) && earlier i) 
+      ap (λ t. t && nat_lt y.number x.number) split ∙ (λ i. (((agency i && kind i) && short i) && long i) && earlier i)
       ∙ five (is_lt (text_cmp s.route_id r.route_id)) (bytes_eq (text_of_number (agency_ids p) s.agency_id.0) (text_of_number (agency_ids p) r.agency_id.0)) (s.route_type == r.route_type)
       (same_text s.route_short_name r.route_short_name) (same_text s.route_long_name r.route_long_name)
 
@@ -133,9 +133,9 @@ module _ (p : Parts) (sound : IsSoundParts p) where
     numbers : map (λ x. x.number) xs ≡ range_with_len 0 (length xs)
     numbers =
         one-list (map (λ x. x.number) xs) (range_with_len 0 (length xs)) (length-map xs (λ x. x.number) ∙ sym (length-range_with_len 0 (length xs))) (λ k d h.
-          let inside : k < length xs = omega (arith, h, length-map xs (λ x. x.number)) in
-          let e = some_of xs k inside in
-          get_or-map (λ x. x.number) xs k e d inside ∙ number-at k e inside ∙ sym (get_or-range_with_len 0 (length xs) k d inside ∙ omega arith))
+        let inside : k < length xs = omega (arith, h, length-map xs (λ x. x.number)) in
+        let e = some_of xs k inside in
+        get_or-map (λ x. x.number) xs k e d inside ∙ number-at k e inside ∙ sym (get_or-range_with_len 0 (length xs) k d inside ∙ omega arith))
 
     module _ (up : IsSorted listed_cmp ys) where
       distinct : AllPairs (λ x y. x.number ≢ y.number) ys
@@ -145,8 +145,8 @@ module _ (p : Parts) (sound : IsSoundParts p) where
       module _ (n : ℕ) (r : Route) (x : NamedRoute) (at_r : slice_get p.routes n ≡ Some r) (at_x : slice_get xs n ≡ Some x) (is_x : IsNamed n r x) where
         paired : list_any (λ y. is_repeated_of name_cmp names_total (λ z. z.number) x y) xs ≡ list_any (λ s. has_names_of (route_of p r) (route_of p s)) p.routes
         paired = any-paired (λ y. is_repeated_of name_cmp names_total (λ z. z.number) x y) (λ s. has_names_of (route_of p r) (route_of p s)) xs p.routes are.count (λ m y s at_y at_s.
-          let is_y = are.each m s y (slice_get_within p.routes m s at_s) in
-          names m n s r y x at_s at_r (subst (λ z. IsNamed m s z) (get_or_from_slice_get xs m y y at_y) (subst (λ z. IsNamed m z (get_or xs m y)) (get_or_from_slice_get p.routes m s s at_s) is_y)) is_x)
+            let is_y = are.each m s y (slice_get_within p.routes m s at_s) in
+            names m n s r y x at_s at_r (subst (λ z. IsNamed m s z) (get_or_from_slice_get xs m y y at_y) (subst (λ z. IsNamed m z (get_or xs m y)) (get_or_from_slice_get p.routes m s s at_s) is_y)) is_x)
 
         stands : list_any (λ w. option_eq nat_eq (repeated w) (Some n)) (neighbours ys) ≡ is_named_as_another (content_of_parts p) (route_of p r)
         stands =
@@ -163,11 +163,11 @@ module _ (p : Parts) (sound : IsSoundParts p) where
           let all = map (is_named_as_another c) c.routes in
           let size : length all ≡ length p.routes = length-map c.routes (is_named_as_another c) ∙ length-map p.routes (route_of p) in
           one-list marks all (marked.count ∙ sym counted ∙ are.count ∙ sym size) (λ k d h.
-            let inside : k < length xs = omega (arith, h, marked.count, counted) in
-            let known : k < length p.routes = omega (arith, inside, are.count) in
-            let e = some_of xs k inside in
-            let f = some_of p.routes k known in
-            let r = get_or p.routes k f in
-            get_or_default marks k d false h ∙ marked.at k (omega (arith, inside, counted))
-            ∙ stands k r (get_or xs k e) (slice_get-get_or p.routes k f known) (slice_get-get_or xs k e inside) (are.each k f e known)
-            ∙ sym (get_or-map (is_named_as_another c) c.routes k (route_of p f) d (omega (arith, known, length-map p.routes (route_of p))) ∙ ap (is_named_as_another c) (get_or-map (route_of p) p.routes k f (route_of p f) known)))
+          let inside : k < length xs = omega (arith, h, marked.count, counted) in
+          let known : k < length p.routes = omega (arith, inside, are.count) in
+          let e = some_of xs k inside in
+          let f = some_of p.routes k known in
+          let r = get_or p.routes k f in
+          get_or_default marks k d false h ∙ marked.at k (omega (arith, inside, counted))
+          ∙ stands k r (get_or xs k e) (slice_get-get_or p.routes k f known) (slice_get-get_or xs k e inside) (are.each k f e known)
+          ∙ sym (get_or-map (is_named_as_another c) c.routes k (route_of p f) d (omega (arith, known, length-map p.routes (route_of p))) ∙ ap (is_named_as_another c) (get_or-map (route_of p) p.routes k f (route_of p f) known)))

@@ -1,8 +1,7 @@
 -- Routes in the order of their names.
-use Rattle.std.proofs.Common.{◌≡◌, ◌≢◌, ◌∙◌, ◌+◌, ◌-◌, ◌<◌, ◌≤◌, ◌++◌, ℕ, zero, suc, Bool, true, false, List, [], ◌∷◌, Option, Some, None, length, map, get_or, refl, sym, ap, subst, arith, inl, inr}
+use Rattle.std.proofs.Common.{◌≡◌, ◌∙◌, ◌+◌, ◌<◌, ◌++◌, ℕ, List, [], ◌∷◌, None, length, get_or, refl, sym, ap, subst, arith, inl, inr}
 use Rattle.std.specs.Cmp.{IsTotalOrder, nat_cmp_total, on_total, then_total}
 use Rattle.std.specs.Cmp.Lexicographic.{options_total}
-use Rattle.std.specs.List.{slice_get}
 use Rattle.std.proofs.lemmas.Bool.{cases_lt}
 use Rattle.std.proofs.lemmas.List.{get_or_append_left, get_or_default, length-append}
 use Rattle.std.proofs.Math.Seq.{get_or-append_seam}
@@ -50,7 +49,6 @@ one-named rs n r x before after within is one pushed so_far = record {
   ];
 }
 
-
 pub all-named : (rs : List Route) (n : ℕ) (xs : List NamedRoute) → n ≡ length rs → AreNamedSoFar rs n xs → AreNamed rs xs
 all-named rs n xs end so_far = record { count = so_far.count ∙ end; each = λ k d e h. so_far.each k d e (omega (arith, h, end)) }
 
@@ -59,4 +57,3 @@ all-named rs n xs end so_far = record { count = so_far.count ∙ end; each = λ 
 -- what an index past the end reads
 abbrev pub nothing : NamedRoute
 nothing = record { agency = record { 0 = 0 }; route_type = 0; short_name = None; long_name = None; number = 0 }
-

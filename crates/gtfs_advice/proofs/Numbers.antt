@@ -1,5 +1,5 @@
 -- Among ids that ascend, numbers compare as the ids do.
-use Rattle.std.proofs.Common.{◌≡◌, ◌∙◌, ◌<◌, ℕ, zero, suc, List, [], ◌∷◌, length, map, Option, Some, refl, sym, ap, arith, inl, inr}
+use Rattle.std.proofs.Common.{◌≡◌, ◌∙◌, ◌<◌, ℕ, zero, suc, List, [], ◌∷◌, length, Some, sym, ap, arith, inl, inr}
 use Rattle.std.specs.Prelude.{◌==◌, bytes_eq, find, nat_lt}
 use Rattle.std.specs.Cmp.{nat_cmp_is, tied_itself}
 use Rattle.std.specs.List.{slice_get}

@@ -1,5 +1,5 @@
 -- Trips of the content of parts that pass a test of their rows with numbers.
-use Rattle.std.proofs.Common.{◌≡◌, ℕ, zero, suc, Bool, List, [], ◌∷◌, Some, length, refl, arith}
+use Rattle.std.proofs.Common.{◌≡◌, ℕ, suc, Bool, List, [], ◌∷◌, Some, length, refl, arith}
 use Rattle.std.specs.Prelude.{◌||◌}
 use Rattle.std.specs.List.{list_any, slice_get}
 use Rattle.gtfs_rows.specs.declared.frequency.Frequency.{Frequency}

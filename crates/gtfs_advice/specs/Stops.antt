@@ -5,7 +5,7 @@ use Rattle.std.specs.List.{list_any}
 use Rattle.std.specs.Option.{option_and_then, option_eq}
 use Rattle.gtfs_columns.specs.Values.{if_both, if_there}
 use Rattle.gtfs_rows.specs.Content.{Content}
-use Rattle.gtfs_rows.specs.Rows.{Stop, StopRow, Trip}
+use Rattle.gtfs_rows.specs.Rows.{Stop, Trip}
 use Rattle.gtfs_advice.specs.Texts.{is_garbled_if_given}
 
 -- the stop of an id

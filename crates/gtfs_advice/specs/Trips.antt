@@ -1,5 +1,5 @@
 -- Which trips a reader would look at twice (GTFS Schedule Reference, trips.txt and frequencies.txt).
-use Rattle.std.specs.Prelude.{ℕ, ◌-◌, ◌==◌, ◌&&◌, not, Bool, nat_eq, nat_le, List, length, bytes_eq, is_none}
+use Rattle.std.specs.Prelude.{◌-◌, ◌==◌, ◌&&◌, not, Bool, nat_eq, nat_le, length, bytes_eq, is_none}
 use Rattle.std.specs.List.{list_any}
 use Rattle.std.specs.Option.{option_eq}
 use Rattle.std.specs.Ordering.{is_lt}

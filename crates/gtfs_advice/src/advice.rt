@@ -2,9 +2,8 @@ ghost use Rattle.std.specs.Prelude.{◌≡◌, ◌++◌, OnOk};
 ghost use Rattle.gtfs_advice.specs.Advice.{said};
 
 use crate::code::Code;
-
-use gtfs_rows::{AgencyNo, RouteNo, ServiceNo, StopNo, TripNo};
 use gtfs_field::{Day, OutOfMemory};
+use gtfs_rows::{AgencyNo, RouteNo, ServiceNo, StopNo, TripNo};
 
 /// What an advice is about: a row of the feed by its number, a day, or nothing.
 #[derive(Clone, Copy, Debug, PartialEq, Eq)]

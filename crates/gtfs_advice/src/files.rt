@@ -20,11 +20,7 @@ use std::alloc::Global;
 ///
 /// # Errors
 /// `OutOfMemory` where memory is refused.
-pub fn advise(
-    alloc: Global,
-    feed: &Feed,
-    day: Option<Day>,
-) -> Result<List<Advice>, OutOfMemory>
+pub fn advise(alloc: Global, feed: &Feed, day: Option<Day>) -> Result<List<Advice>, OutOfMemory>
     ensures told { IfOk result (λ list. map (advice_of feed.now) list
         ≡ advice (content_of_parts feed.now) day) }
     ensures within { IfOk result (All (λ a. IsWithin feed.now a.subject)) }

@@ -65,8 +65,14 @@ fn answers(parts: &Parts, stop: &Stop, has_call: bool, has_stop: bool) -> [(Code
 {
     let kind = stop.location_type;
     [
-        (Code::StopWithoutTrip, kind == LocationType::Stop && !has_call),
-        (Code::StationWithoutStop, kind == LocationType::Station && !has_stop),
+        (
+            Code::StopWithoutTrip,
+            kind == LocationType::Stop && !has_call,
+        ),
+        (
+            Code::StationWithoutStop,
+            kind == LocationType::Station && !has_stop,
+        ),
         (Code::StopNearZeroOrPole, is_near_zero_or_pole(stop)),
         (Code::StopFarFromParent, is_far_from_parent(parts, stop)),
         (Code::GarbledStop, is_garbled_if_given(&stop.stop_name)),

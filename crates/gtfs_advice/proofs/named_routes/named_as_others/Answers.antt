@@ -1,4 +1,4 @@
-use Rattle.std.proofs.Common.{◌≡◌, ◌<◌, false, List, Some, Vec, Bool, Global, length, map, nat_eq, sym, subst}
+use Rattle.std.proofs.Common.{◌≡◌, ◌<◌, List, Some, Vec, Bool, Global, length, map, nat_eq, sym, subst}
 use Rattle.std.specs.Prelude.{All}
 use Rattle.std.specs.List.{list_any}
 use Rattle.std.specs.Option.{option_eq}

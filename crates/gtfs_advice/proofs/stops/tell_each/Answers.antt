@@ -1,6 +1,4 @@
-use Rattle.std.proofs.Common.{◌≡◌, Some, refl}
-use Rattle.std.specs.List.{slice_get}
-use Rattle.gtfs_advice.proofs.StopFacts.{names-parent, told}
+use Rattle.gtfs_advice.proofs.StopFacts.{told}
 use Rattle.gtfs_advice.proofs.Telling.{item_at}
 use Rattle.gtfs_advice.proofs.stops.tell_each.Goals as goal
 

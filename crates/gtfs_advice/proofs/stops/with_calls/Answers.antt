@@ -1,4 +1,4 @@
-use Rattle.std.proofs.Common.{◌≤◌, arith, length, subst, sym}
+use Rattle.std.proofs.Common.{◌≤◌, subst, sym}
 use Rattle.std.specs.Prelude.{All, ◌<◌}
 use Rattle.gtfs_advice.proofs.StopFacts.{called-all, called-more, called-within}
 use Rattle.gtfs_advice.proofs.stops.with_calls.Goals as goal
