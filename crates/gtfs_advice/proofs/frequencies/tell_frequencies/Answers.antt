@@ -1,0 +1,16 @@
+use Rattle.std.proofs.Common.{arith}
+use Rattle.gtfs_advice.specs.Advice.{frequency_rules}
+use Rattle.gtfs_advice.proofs.TripTelling.{trip-told, trips-told}
+use Rattle.gtfs_advice.proofs.frequencies.tell_frequencies.Goals as goal
+
+pub loop-number-preserved : goal.loop-number-preserved
+loop-number-preserved c =
+    let p = c.args.feed.now in
+    let n = c.loop-number.number in
+    trip-told p c.soundness.ensures frequency_rules n c.answers-answers.result c.args.told.now.items c.loop-number.told.items c.tell.new.told.items (omega (arith, c.trip_count-number-end.ensures)) c.answers-answers.ensures c.in_ok-tell.ensures
+    c.loop-number.invariant
+
+pub returns : goal.returns
+returns c =
+    let p = c.args.feed.now in
+    trips-told p c.soundness.ensures frequency_rules c.loop-number.number c.args.told.now.items c.loop-number.told.items (omega (arith, c.trip_count-number-end.ensures)) c.loop-number.invariant

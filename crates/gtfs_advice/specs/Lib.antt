@@ -1,0 +1,17 @@
+pub mod Texts
+pub mod Agencies
+pub mod Stops
+pub mod Routes
+pub mod Trips
+pub mod StopTimes
+pub mod Services
+pub mod Codes
+pub mod Advice
+pub mod Marks
+pub mod Steps
+pub mod Courses
+pub mod Names
+pub mod Seasons
+pub mod ServedDays
+pub mod Waiting
+pub mod UsedServices
