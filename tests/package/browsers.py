@@ -26,8 +26,13 @@ NAMES = {"HAR": "Old Harbour", "HAR-1": "Old Harbour, platform 1", "HAR-2": "Old
 
 
 def start(*words):
-    """Starts the script."""
-    return subprocess.Popen([sys.executable, "-W", "error", SCRIPT, *words], env={**os.environ, "PYTHONPATH": PACKAGE}, **PIPES)
+    """Starts the script; it hears interrupts, which a shell's background commands do not."""
+    command = [sys.executable, "-W", "error", SCRIPT, *words]
+    return subprocess.Popen(command, env={**os.environ, "PYTHONPATH": PACKAGE}, preexec_fn=hear_interrupts, **PIPES)
+
+
+def hear_interrupts():
+    signal.signal(signal.SIGINT, signal.SIG_DFL)
 
 
 @contextlib.contextmanager
