@@ -1,15 +1,15 @@
 ghost use Rattle.std.specs.Prelude.{◌≡◌, ◌≤◌, IsTrue, [], string_bytes, option_map, vec_len, IfOk, IfErr, IfSome, IsErrOf, OnOk};
-ghost use Rattle.gtfs_devices.specs.Disk.{path_in, FillsMade, IsWritable, LacksDir, LendsOrLacks, OpensOrLacks, OverflowsOpened, ReadsOrLacks, RefusesFile, RefusesOpen, RefusesReading, RefusesStore, GivesMoreThan};
+ghost use Rattle.gtfs_devices.specs.Disk.{path_in, FillsMade, IsWritable, LacksDir, LendsOrLacks, OpensOrLacks, OverflowsOpened, ReadsOrLacks, RefusesFile, RefusesOpen, RefusesStore};
 
 use crate::file_reader::FileReader;
 use crate::folders::FolderFault;
-use crate::read_within::{Unkept, lend_within, read_within};
+use crate::read_within::{lend_within, read_within};
 use crate::system::{Entry, System};
 use crate::write_whole::write_whole;
 use gtfs_field::OutOfMemory;
 use std::alloc::Global;
 use std::fs::OpenFile;
-use std::io::{ErrorKind, Read};
+use std::io::ErrorKind;
 
 // A folder's file, or None where the folder has no entry of that name.
 // How long a file is tells its reading.
@@ -33,7 +33,7 @@ pub(crate) fn read_file<S: System>(
 {
     match open_file(system, alloc, dir, name)? {
         Some(mut file) => {
-            let size = expected_size(&mut file, limit)?;
+            let size = size_hint(&file, limit);
             Ok(Some(read_within(alloc, &mut file, limit, size)?))
         }
         None => Ok(None),
@@ -63,7 +63,7 @@ pub(crate) fn lend_file<S: System, R: FileReader>(
 {
     match open_file(system, alloc, dir, name)? {
         Some(mut file) => {
-            reader.expect(expected_size(&mut file, limit)?)?;
+            reader.expect(size_hint(&file, limit))?;
             lend_within(&mut file, limit, reader)?;
             Ok(true)
         }
@@ -156,21 +156,10 @@ fn folder_stands<S: System>(system: &S, dir: &str) -> Result<(), FolderFault>
 }
 
 // How many bytes to make room for, as far as the file system tells it.
-// A file that it tells to be over the limit is read and not kept: its bytes alone show that it is,
-// and to keep them until then may take more memory than there is.
-fn expected_size<F: Read + OpenFile>(file: &mut F, limit: u64) -> Result<usize, FolderFault>
-    ensures unread { IfOk result (λ _. file.new ≡ file.old) }
-    ensures large { IsErrOf result FolderFault.TooLarge
-        → GivesMoreThan limit (F.remaining file.old) (F.remaining file.new) }
-    ensures faults { IfErr result RefusesReading }
-{
+fn size_hint<F: OpenFile>(file: &F, limit: u64) -> usize {
     match file.metadata() {
-        Ok(found) if found.len() > limit => {
-            lend_within(file, limit, &mut Unkept)?;
-            Err(FolderFault::Read)
-        }
-        Ok(found) => Ok(found.len() as usize),
-        Err(_) => Ok(0),
+        Ok(found) => found.len().min(limit) as usize,
+        Err(_) => 0,
     }
 }
 

@@ -3,27 +3,8 @@ ghost use Rattle.gtfs_devices.specs.Disk.{RefusesReading, GivesAtMost, GivesMore
 
 use crate::file_reader::FileReader;
 use crate::folders::FolderFault;
-use gtfs_field::OutOfMemory;
 use std::alloc::Global;
 use std::io::{ErrorKind, Read};
-
-// A reader that keeps nothing of a file.
-#[derive(Drop)]
-pub(crate) struct Unkept;
-
-impl FileReader for Unkept {
-    ghost use Rattle.std.specs.Prelude.{⊤};
-
-    ghost has_taken = { λ _ _. ⊤ };
-
-    fn expect(&mut self, _size: usize) -> Result<(), OutOfMemory> {
-        Ok(())
-    }
-
-    fn take(&mut self, _piece: &[u8]) -> Result<(), OutOfMemory> {
-        Ok(())
-    }
-}
 
 // How many bytes are asked for at once.
 const CHUNK: usize = 65_536;
