@@ -9,7 +9,7 @@ use Rattle.gtfs_columns.specs.Problems.{Problem, passes}
 use Rattle.gtfs_rules.specs.Report.{counts_line}
 use Rattle.gtfs_cli.specs.Checking.{counts_text}
 
-count-cons : {X : Type 0} (p : X → Bool) (x : X) (xs : List X) → count_by p (x ∷ xs) ≡ cond (p x) 1 0 + count_by p xs
+pub count-cons : {X : Type 0} (p : X → Bool) (x : X) (xs : List X) → count_by p (x ∷ xs) ≡ cond (p x) 1 0 + count_by p xs
 count-cons p x xs = sum_by-cons (λ y. cond (p y) 1 0) x xs
 
 -- what passes a test and what does not are all

@@ -12,6 +12,8 @@ mod ControlSplit
 mod Opening
 mod Ended
 mod Tabled
+mod SentLines
+mod Kinds
 mod Untaken
 pub mod Sequences
 mod NamesTold

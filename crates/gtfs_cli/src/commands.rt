@@ -19,6 +19,7 @@ mod check;
 mod feed;
 mod files;
 mod folder;
+mod kinds;
 mod merge;
 mod merge_values;
 mod messages;
@@ -241,7 +242,7 @@ fn command<'w, S: AsStr, F: Folders, I: Input<O>, O: Out>(
         → input.new ≡ input.old }
 {
     match read_words(alloc, words) {
-        Ok(Command::Check(dir)) => check::print_report(alloc, dir, folders, out),
+        Ok(Command::Check(given)) => check::print_report(alloc, &given, folders, out),
         Ok(Command::Board(given)) => {
             answer(board::print_board(alloc, random, &given, folders, out))
         }

@@ -4,7 +4,9 @@ mod counts;
 mod line;
 mod names_line;
 mod pieces;
+mod shown_line;
+mod value;
 
 pub(crate) use counts::push_counts;
-pub(crate) use line::push_problem;
 pub(crate) use names_line::NamesLine;
+pub(crate) use shown_line::push_line;

@@ -11,6 +11,8 @@ mod assertions;
 #[cfg(test)]
 mod boards;
 #[cfg(test)]
+mod checks;
+#[cfg(test)]
 mod cutoff;
 #[cfg(test)]
 mod ended;

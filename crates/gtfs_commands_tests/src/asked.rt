@@ -4,12 +4,25 @@ use crate::asserts::{assert_equal, assert_equal_at};
 use gtfs_commands::{Command, read_words};
 use std::test::Fail;
 
+// Words of a check, and whether its values and its summary are asked for.
+const CHECKS: &[(&[&str], bool, bool)] = &[
+    (&["gtfs", "check", "f1"], false, false),
+    (&["gtfs", "check", "f1", "--values"], true, false),
+    (&["gtfs", "check", "--summary", "f1"], false, true),
+    (&["gtfs", "check", "--values", "f1", "--summary"], true, true),
+    (&["gtfs", "check", "--summary", "--values", "--", "f1"], true, true),
+];
+
 #[test]
-fn check_has_its_folder(rt: HostRuntime) -> Result<(), Fail> {
-    let Ok(Command::Check(dir)) = read_words(rt.alloc(), &["gtfs", "check", "f1"]) else {
-        return Err("no check".into());
-    };
-    assert_equal(&rt, dir, "f1");
+fn check_has_its_folder_and_its_flags(rt: HostRuntime) -> Result<(), Fail> {
+    for &(words, values, summary) in CHECKS {
+        let Ok(Command::Check(texts)) = read_words(rt.alloc(), words) else {
+            return Err("no check".into());
+        };
+        assert_equal_at(&rt, words, texts.dir, "f1");
+        assert_equal_at(&rt, words, texts.values, values);
+        assert_equal_at(&rt, words, texts.summary, summary);
+    }
     Ok(())
 }
 
