@@ -23,8 +23,14 @@ value_of (Some x) some = (x, refl)
 check_of : (given : List Row) → HasCheck given → (asked : CheckTexts) × GivesCheck given asked
 check_of given has =
     let dir = value_of (first_of (codes "DIR") given) has in (
-      record { dir = dir.0; values = is_flagged (codes "values") given; summary = is_flagged (codes "summary") given },
-      record { dir = dir.1; values = refl; summary = refl },
+      record {
+        dir = dir.0;
+        values = is_flagged (codes "values") given;
+        summary = is_flagged (codes "summary") given;
+        advise = is_flagged (codes "advise") given;
+        day = first_of (codes "day") given;
+      },
+      record { dir = dir.1; values = refl; summary = refl; advise = refl; day = refl },
     )
 
 board_of : (given : List Row) → HasBoard given → (asked : BoardTexts) × GivesBoard given asked

@@ -13,7 +13,9 @@ same_check (Some found) a b is_a is_b =
     let dir : a.dir ≡ b.dir = same _ a.dir b.dir is_a.1.dir is_b.1.dir in
     let values : a.values ≡ b.values = sym is_a.1.values ∙ is_b.1.values in
     let summary : a.summary ≡ b.summary = sym is_a.1.summary ∙ is_b.1.summary in
-    λ i. record { dir = dir i; values = values i; summary = summary i }
+    let advise : a.advise ≡ b.advise = sym is_a.1.advise ∙ is_b.1.advise in
+    let day : a.day ≡ b.day = sym is_a.1.day ∙ is_b.1.day in
+    λ i. record { dir = dir i; values = values i; summary = summary i; advise = advise i; day = day i }
 
 pub same_board : (found : Option (Text × List Row)) (a b : BoardTexts) → ForBoard found a → ForBoard found b → a ≡ b
 same_board None a b is_a is_b = absurd is_a

@@ -16,11 +16,13 @@ use Rattle.gtfs_commands.specs.declared.command.TimetableTexts.{TimetableTexts a
 
 -- ---- the texts of each command, as they stand in the words
 
--- what is given to `check`; the last two say whether their flags are given
+-- what is given to `check`; a day may be missing, and the others say whether their flags are given
 pub record CheckTexts : Type 0 where
   pub dir : Text
   pub values : Bool
   pub summary : Bool
+  pub advise : Bool
+  pub day : Option Text
 
 -- what is given to `board`; a limit and a key may be missing, and the last says whether its flag is given
 pub record BoardTexts : Type 0 where
@@ -63,7 +65,13 @@ pub record MergeTexts : Type 0 where
   pub cutoff : Option Text
 
 abbrev pub check_texts_of : LentCheckTexts → CheckTexts
-check_texts_of words = record { dir = words.dir.now; values = words.values; summary = words.summary }
+check_texts_of words = record {
+  dir = words.dir.now;
+  values = words.values;
+  summary = words.summary;
+  advise = words.advise;
+  day = option_map (λ text. text.now) words.day;
+}
 
 abbrev pub texts_of : LentBoardTexts → BoardTexts
 texts_of words = record {
@@ -117,11 +125,13 @@ is_from_words _ = false
 abbrev pub is_flagged : Text → List Row → Bool
 is_flagged id given = is_from_words (option_and_then (λ r. r.source) (find (λ r. bytes_eq r.id id) given))
 
--- it is the text that was given for the folder; the flags are told as they were given
+-- each is the text that was given for it, and None where none was given; the flags are told as they were given
 pub record GivesCheck (given : List Row) (asked : CheckTexts) : Type 0 where
   pub dir : first_of (codes "DIR") given ≡ Some asked.dir
   pub values : is_flagged (codes "values") given ≡ asked.values
   pub summary : is_flagged (codes "summary") given ≡ asked.summary
+  pub advise : is_flagged (codes "advise") given ≡ asked.advise
+  pub day : first_of (codes "day") given ≡ asked.day
 
 -- each is the text that was given for it, and None where none was given; the flag is told as it was given
 pub record GivesBoard (given : List Row) (asked : BoardTexts) : Type 0 where

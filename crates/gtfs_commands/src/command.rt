@@ -18,7 +18,7 @@ pub enum Command<'w> {
 }
 
 /// What was given to `gtfs check`:
-/// the text as it stands in the words, and whether each flag stands there.
+/// each text as it stands in the words, and whether each flag stands there.
 #[derive(Clone, Copy)]
 pub struct CheckTexts<'w> {
     /// The folder of the feed.
@@ -27,6 +27,10 @@ pub struct CheckTexts<'w> {
     pub values: bool,
     /// Whether problems that are alike have one line, with their number.
     pub summary: bool,
+    /// Whether a feed without errors gets advice.
+    pub advise: bool,
+    /// The service day from which on there is to be service, if one was said.
+    pub day: Option<&'w str>,
 }
 
 /// What was given to `gtfs board`:

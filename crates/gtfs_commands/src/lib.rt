@@ -1,7 +1,7 @@
 //! What the words of the command line of `gtfs` ask for, read by `clap`.
 //!
 //! ```text
-//! gtfs check DIR [--values] [--summary]
+//! gtfs check DIR [--values] [--summary] [--advise] [--day D]
 //! gtfs board DIR --zone FILE --stop ID --from T --until T [--limit N] [--after KEY] [--interpolate]
 //! gtfs boards DIR --zone FILE --requests FILE [--interpolate]
 //! gtfs serve DIR --zone FILE [--interpolate]

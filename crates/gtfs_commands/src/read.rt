@@ -68,6 +68,8 @@ fn check_words<'w>(given: &ArgMatches<'w>) -> Option<CheckTexts<'w>>
         dir: given_text(given, "DIR")?,
         values: is_flagged(given, "values"),
         summary: is_flagged(given, "summary"),
+        advise: is_flagged(given, "advise"),
+        day: given_text(given, "day"),
     })
 }
 

@@ -4,24 +4,47 @@ use crate::asserts::{assert_equal, assert_equal_at};
 use gtfs_commands::{Command, read_words};
 use std::test::Fail;
 
-// Words of a check, and whether its values and its summary are asked for.
-const CHECKS: &[(&[&str], bool, bool)] = &[
-    (&["gtfs", "check", "f1"], false, false),
-    (&["gtfs", "check", "f1", "--values"], true, false),
-    (&["gtfs", "check", "--summary", "f1"], false, true),
-    (&["gtfs", "check", "--values", "f1", "--summary"], true, true),
-    (&["gtfs", "check", "--summary", "--values", "--", "f1"], true, true),
+#[test]
+fn check_has_its_folder(rt: HostRuntime) -> Result<(), Fail> {
+    let Ok(Command::Check(texts)) = read_words(rt.alloc(), &["gtfs", "check", "f1"]) else {
+        return Err("no check".into());
+    };
+    assert_equal(&rt, texts.dir, "f1");
+    let flags = (texts.values, texts.summary, texts.advise);
+    assert_equal(&rt, flags, (false, false, false));
+    assert_equal(&rt, texts.day, None);
+    Ok(())
+}
+
+// Words of a check, and which of its flags they have.
+const CHECKS: &[(&[&str], (bool, bool, bool), Option<&str>)] = &[
+    (&["gtfs", "check", "f1", "--values"], (true, false, false), None),
+    (&["gtfs", "check", "--summary", "f1"], (false, true, false), None),
+    (&["gtfs", "check", "f1", "--advise"], (false, false, true), None),
+    (
+        &["gtfs", "check", "f1", "--day", "20240401"],
+        (false, false, false),
+        Some("20240401"),
+    ),
+    (
+        &[
+            "gtfs", "check", "--day=", "--summary", "--advise", "--values", "--", "f1",
+        ],
+        (true, true, true),
+        Some(""),
+    ),
 ];
 
 #[test]
-fn check_has_its_folder_and_its_flags(rt: HostRuntime) -> Result<(), Fail> {
-    for &(words, values, summary) in CHECKS {
+fn check_has_its_options_in_each_order(rt: HostRuntime) -> Result<(), Fail> {
+    for &(words, flags, day) in CHECKS {
         let Ok(Command::Check(texts)) = read_words(rt.alloc(), words) else {
             return Err("no check".into());
         };
         assert_equal_at(&rt, words, texts.dir, "f1");
-        assert_equal_at(&rt, words, texts.values, values);
-        assert_equal_at(&rt, words, texts.summary, summary);
+        let found = (texts.values, texts.summary, texts.advise);
+        assert_equal_at(&rt, words, found, flags);
+        assert_equal_at(&rt, words, texts.day, day);
     }
     Ok(())
 }

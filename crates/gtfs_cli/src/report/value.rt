@@ -1,4 +1,4 @@
-ghost use Rattle.std.specs.Prelude.{◌≡◌, ◌++◌, chars, encode_utf8_all, plain, string_bytes, take, OnOk};
+ghost use Rattle.std.specs.Prelude.{◌≡◌, ◌++◌, chars, encode_utf8, encode_utf8_all, string_bytes, take, OnOk};
 ghost use Rattle.gtfs_columns.specs.Values.{plain};
 ghost use Rattle.gtfs_cli.specs.CheckLines.{shown_value, value_field};
 
@@ -41,11 +41,20 @@ fn push_beginning(text: &mut String, value: &str) -> Result<(), OutOfMemory>
     ensures { OnOk result (string_bytes text.new
         ≡ string_bytes text.old ++ plain (encode_utf8_all (take 57 (chars value.now)))) }
 {
-    let mut characters = value.chars();
-    for _ in 0..BEGINNING {
-        if let Some(character) = characters.next() {
-            text.push(if character.is_ascii_control() { ' ' } else { character })?;
-        }
+    for character in value.chars().take(BEGINNING) {
+        push_character(text, character)?;
     }
     Ok(())
+}
+
+// Appends a space for a control character, and any other as it is.
+fn push_character(text: &mut String, character: char) -> Result<(), OutOfMemory>
+    ensures { OnOk result (string_bytes text.new
+        ≡ string_bytes text.old ++ plain (encode_utf8 character)) }
+{
+    if character.is_ascii_control() {
+        text.push(' ')
+    } else {
+        text.push(character)
+    }
 }
