@@ -4,7 +4,7 @@
         for departure in feed.next("HAR", count=10):
             print(departure.time, departure.route, departure.headsign)
 
-The program answers. This package starts it, asks it, and makes objects of its lines.
+The program answers. This package starts it, asks it, and makes objects of its lines. Only `names` reads the files of a feed itself.
 """
 from .departures import Departure
 from .faults import (
@@ -12,11 +12,12 @@ from .faults import (
 )
 from .feed import Feed
 from .merges import Merged, Renamed, merge
+from .naming import Names, Route, Stop, names
 from .reports import Problem, Report, check
 from .sheets import Sheet
 from .version import VERSION as __version__
 
 __all__ = [
-    "BrokenProcess", "Departure", "DeviceFault", "Feed", "HasErrors", "Merged", "NoProgram", "NoZone", "OutOfMemory", "Problem", "Refused",
-    "Renamed", "Report", "Sheet", "UnknownRoute", "UnknownStop", "__version__", "check", "merge",
+    "BrokenProcess", "Departure", "DeviceFault", "Feed", "HasErrors", "Merged", "Names", "NoProgram", "NoZone", "OutOfMemory", "Problem",
+    "Refused", "Renamed", "Report", "Route", "Sheet", "Stop", "UnknownRoute", "UnknownStop", "__version__", "check", "merge", "names",
 ]

@@ -1,5 +1,5 @@
 """What is raised where the program gives no answer."""
-from typing import TYPE_CHECKING, Type
+from typing import TYPE_CHECKING, Dict, Type
 
 if TYPE_CHECKING:
     from .reports import Report
@@ -61,13 +61,13 @@ class NoZone(LookupError):
     """No zone file was found for the `agency_timezone` of a feed. Name one: `zone="path"`."""
 
 
-_BY_MESSAGE = {"unknown stop": UnknownStop, "unknown route": UnknownRoute}
-_BY_STATUS = {3: DeviceFault, 4: OutOfMemory}
+_BY_MESSAGE: Dict[str, Type[Refused]] = {"unknown stop": UnknownStop, "unknown route": UnknownRoute}
+_BY_STATUS: Dict[int, Type[Refused]] = {3: DeviceFault, 4: OutOfMemory}
 
 
 def refusal(status: int, message: str) -> Refused:
     """The exception for a status from 1 to 4 and the reason that the program gave."""
-    kind: Type[Refused] = _BY_MESSAGE.get(message) or _BY_STATUS.get(status, Refused)
+    kind = _BY_MESSAGE.get(message) or _BY_STATUS.get(status) or Refused
     return kind(status, message)
 
 

@@ -49,8 +49,14 @@ class Feed:
         self._time_limit = time_limit
         self._lock = threading.Lock()
         self._is_closed = False
-        self._words = ["serve", f"--zone={self._zone(zone)}", *(["--interpolate"] if interpolate else []), "--", self._folder]
+        self._zone = self._find_zone(zone)
+        self._words = ["serve", f"--zone={self._zone}", *(["--interpolate"] if interpolate else []), "--", self._folder]
         self._process: Optional[Process] = self._start()
+
+    @property
+    def zone(self) -> str:
+        """The path of the zone file."""
+        return self._zone
 
     def board(
         self, stop: str, begin: Moment, end: Moment, *, limit: Optional[int] = None, after: Optional[str] = None
@@ -98,7 +104,7 @@ class Feed:
     ) -> None:
         self.close()
 
-    def _zone(self, zone: Optional[Path]) -> str:
+    def _find_zone(self, zone: Optional[Path]) -> str:
         """The zone file. Where a feed has errors, these are told and not that it has none."""
         if zone is not None:
             return os.fsdecode(zone)

@@ -46,7 +46,7 @@ class Process:
     def __init__(self, words: List[str], time_limit: Optional[float]) -> None:
         self._time_limit = time_limit
         self._told = b""
-        self._process = start(words, stdin=subprocess.PIPE, stdout=subprocess.PIPE, stderr=subprocess.PIPE)
+        self._process = start(words, subprocess.PIPE)
         self._finalizer = weakref.finalize(self, _end, self._process)
         self._stdin, self._stdout, self._stderr = (
             pipe.fileno() for pipe in (self._process.stdin, self._process.stdout, self._process.stderr) if pipe

@@ -49,18 +49,20 @@ def environment(program: str, command: Optional[str]) -> Dict[str, str]:
     return held
 
 
-def start(words: List[str], **pipes: int) -> "subprocess.Popen[bytes]":
-    """Starts the program. Raises `NoProgram`, and `BrokenProcess` where the system does not start it."""
+def start(words: List[str], stdin: int) -> "subprocess.Popen[bytes]":
+    """Starts the program, with pipes from its outputs. Raises `NoProgram`, and `BrokenProcess` where the system does not start it."""
     program = find_program()
     try:
-        return subprocess.Popen([program, *words], bufsize=0, env=environment(program, words[0]), **pipes)
+        return subprocess.Popen(
+            [program, *words], bufsize=0, env=environment(program, words[0]), stdin=stdin, stdout=subprocess.PIPE, stderr=subprocess.PIPE
+        )
     except OSError as fault:
         raise BrokenProcess(f"{program} cannot be started: {fault.strerror}") from fault
 
 
 def run(words: List[str], time_limit: Optional[float]) -> Ended:
     """Runs the program to its end, for as many seconds as the time limit has. Raises what `start` raises, and `BrokenProcess`."""
-    process = start(words, stdin=subprocess.DEVNULL, stdout=subprocess.PIPE, stderr=subprocess.PIPE)
+    process = start(words, subprocess.DEVNULL)
     with process:
         try:
             output, told = process.communicate(timeout=time_limit)

@@ -1,12 +1,13 @@
 """The zone file of a feed: by its agency_timezone, among the zone files of the system."""
 import csv
-import itertools
 import os
 import re
+import sys
 from typing import Sequence
 
 from .faults import NoZone
 from .paths import Path
+from .tables import rows_of
 
 _USUAL = ("/usr/share/zoneinfo", "/usr/lib/zoneinfo", "/usr/share/lib/zoneinfo", "/etc/zoneinfo")
 
@@ -16,28 +17,22 @@ _NAME = re.compile(r"[A-Za-z0-9_+-]+(/[A-Za-z0-9_+-]+)*")
 
 def zone_folders() -> Sequence[str]:
     """The folders that have zone files, as Python's zoneinfo knows them. `PYTHONTZPATH` names others."""
-    try:
+    if sys.version_info >= (3, 9):
         import zoneinfo
-    except ImportError:
-        named = os.environ.get("PYTHONTZPATH")
-        return _USUAL if named is None else [folder for folder in named.split(os.pathsep) if os.path.isabs(folder)]
-    return zoneinfo.TZPATH
+        return zoneinfo.TZPATH
+    named = os.environ.get("PYTHONTZPATH")
+    return _USUAL if named is None else [folder for folder in named.split(os.pathsep) if os.path.isabs(folder)]
 
 
 def agency_timezone(feed: Path) -> str:
     """The `agency_timezone` of the first agency of a feed. Raises `NoZone` where agency.txt tells none."""
-    path = os.path.join(os.fsdecode(feed), "agency.txt")
     try:
-        # (a named pipe would keep `open` waiting)
-        if not os.path.isfile(path):
-            raise LookupError
-        with open(path, encoding="utf-8", newline="") as file:
-            lines = itertools.chain([file.readline().lstrip("\ufeff")], file)
-            rows = (row for row in csv.reader(lines) if any(field.strip() for field in row))
-            at = [name.strip() for name in next(rows)].index("agency_timezone")
-            return next(rows)[at].strip()
-    except (OSError, ValueError, LookupError, StopIteration, csv.Error):
-        raise NoZone(f"{path} tells no agency_timezone: name a zone file") from None
+        zone, = next(rows_of(feed, "agency.txt", "agency_timezone"), [""])
+    except (OSError, ValueError, csv.Error):
+        zone = ""
+    if not zone:
+        raise NoZone(f"{os.path.join(os.fsdecode(feed), 'agency.txt')} tells no agency_timezone: name a zone file")
+    return zone
 
 
 def zone_file(feed: Path) -> str:

@@ -276,9 +276,9 @@ class Opened(Case):
                                    agency=f"agency_name,agency_url,agency_timezone\nM,http://m.example,{name}\n")
                 self.assertRaises(dezhampul.NoZone, dezhampul.Feed, folder)
         ran = subprocess.run(
-            [sys.executable, "-c", f"import dezhampul; print(dezhampul.Feed({example('harbour')!r})._words[1])"], stdout=subprocess.PIPE,
+            [sys.executable, "-c", f"import dezhampul; print(dezhampul.Feed({example('harbour')!r}).zone)"], stdout=subprocess.PIPE,
             env={**os.environ, "PYTHONPATH": PACKAGE, "PYTHONTZPATH": self.path("zones")}, timeout=60)
-        self.assertEqual(ran.stdout.decode(), f"--zone={self.path('zones/Europe/Copenhagen')}\n")
+        self.assertEqual(ran.stdout.decode(), f"{self.path('zones/Europe/Copenhagen')}\n")
 
     def test_agencies(self):
         """agency.txt may have marks, quotes, blank rows and other columns"""
@@ -338,7 +338,7 @@ class Opened(Case):
         for name in dezhampul.__all__:
             if name != "__version__":
                 self.assertTrue(getattr(dezhampul, name).__doc__, name)
-        for name in ("board", "next", "timetable", "close"):
+        for name in ("board", "next", "timetable", "close", "zone"):
             self.assertTrue(getattr(dezhampul.Feed, name).__doc__, name)
         with self.assertRaises(AttributeError):
             dezhampul.check(example("f1")).errors = 1
