@@ -13,7 +13,8 @@ mod Opening
 mod Ended
 mod Tabled
 mod SentLines
-mod Kinds
+mod AlikeProblems
+mod ShownValues
 mod Untaken
 pub mod Sequences
 mod NamesTold

@@ -17,8 +17,8 @@ id line = line
 joined-append : (xs ys : List (List ℕ)) → joined (xs ++ ys) ≡ joined xs ++ joined ys
 joined-append xs ys = flat_map-append id xs ys
 
-memory-told : {T : Type 0} (e : Refusal) → e ≡ OutOfMemory → Err {T = T} e ≡ Err OutOfMemory
-memory-told e is = ap (λ (x : Refusal). Err x) is
+memory-told : {T : Type 0} (e : Refusal) → e ≡ OutOfMemory → ◌≡◌ {A = Result T Refusal} (Err e) (Err OutOfMemory)
+memory-told {T} e is = ap {B = Result T Refusal} (λ (x : Refusal). Err x) is
 
 module _ {T : Type 0} where
   -- memory ran out before anything was sent, and a `?` passes that on

@@ -94,8 +94,7 @@ fn print_each<'w, O: Out>(
         (⟦<O as OutSeen>⟧.seen out.old) (⟦<O as OutSeen>⟧.seen out.new) result }
 {
     for problem in problems {
-        let value = shown_value(values, tables, problem);
-        print_line(line, problem, value, None, out)?;
+        print_shown(line, values, tables, problem, None, out)?;
     }
     Ok(())
 }
@@ -134,12 +133,26 @@ fn print_kind<'w, O: Out>(
         (⟦<O as OutSeen>⟧.seen out.old) (⟦<O as OutSeen>⟧.seen out.new) result }
 {
     match count {
-        Some(count) => {
-            let value = shown_value(values, tables, problem);
-            print_line(line, problem, value, Some(count), out)
-        }
+        Some(_) => print_shown(line, values, tables, problem, count, out),
         None => Ok(()),
     }
+}
+
+// Prints the line of a problem, with its value if values are shown.
+fn print_shown<'w, O: Out>(
+    line: &mut String,
+    values: bool,
+    tables: &Tables,
+    problem: &Problem<'_>,
+    count: Option<usize>,
+    out: &mut O,
+) -> Result<(), Refusal<'w>>
+    ensures { let p = problem_of problem.now in
+        AreSent (line_with p (wanted_value values tables.now p) count ∷ [])
+        (⟦<O as OutSeen>⟧.seen out.old) (⟦<O as OutSeen>⟧.seen out.new) result }
+{
+    let value = shown_value(values, tables, problem);
+    print_line(line, problem, value, count, out)
 }
 
 // Sends the line of a problem out. It is made in a text that was used before.
@@ -150,7 +163,7 @@ fn print_line<'w, O: Out>(
     count: Option<usize>,
     out: &mut O,
 ) -> Result<(), Refusal<'w>>
-    ensures { AreSent (line_with (problem_of problem.now) (option_map (λ v. v.now) value) count ∷ [])
+    ensures { AreSent (line_with (problem_of problem.now) (option_map (λ v. v.now) value.entry) count ∷ [])
         (⟦<O as OutSeen>⟧.seen out.old) (⟦<O as OutSeen>⟧.seen out.new) result }
 {
     line.clear();

@@ -17,7 +17,7 @@ pub(crate) fn push_line(
     count: Option<usize>,
 ) -> Result<(), OutOfMemory>
     ensures { OnOk result (string_bytes text.new ≡ string_bytes text.old
-        ++ line_with (problem_of problem.now) (option_map (λ v. v.now) value) count) }
+        ++ line_with (problem_of problem.now) (option_map (λ v. v.now) value.entry) count) }
 {
     push_problem(text, problem)?;
     push_shown_value(text, value)?;
@@ -27,7 +27,7 @@ pub(crate) fn push_line(
 
 fn push_shown_value(text: &mut String, value: Option<&str>) -> Result<(), OutOfMemory>
     ensures { OnOk result (string_bytes text.new
-        ≡ string_bytes text.old ++ values_shown (option_map (λ v. v.now) value)) }
+        ≡ string_bytes text.old ++ values_shown (option_map (λ v. v.now) value.entry)) }
 {
     match value {
         Some(value) => push_value(text, value),

@@ -1,5 +1,6 @@
-ghost use Rattle.std.specs.Prelude.{◌≡◌, ◌++◌, chars, encode_utf8, encode_utf8_all, string_bytes, take, OnOk};
+ghost use Rattle.std.specs.Prelude.{◌≡◌, ◌++◌, if◌then◌else◌, chars, encode_utf8, encode_utf8_all, string_bytes, take, OnOk};
 ghost use Rattle.gtfs_columns.specs.Values.{plain};
+ghost use Rattle.gtfs_table.specs.Blanks.{is_control};
 ghost use Rattle.gtfs_cli.specs.CheckLines.{shown_value, value_field};
 
 use gtfs_columns::push_plain;
@@ -52,9 +53,15 @@ fn push_character(text: &mut String, character: char) -> Result<(), OutOfMemory>
     ensures { OnOk result (string_bytes text.new
         ≡ string_bytes text.old ++ plain (encode_utf8 character)) }
 {
+    text.push(shown_character(character))
+}
+
+fn shown_character(character: char) -> char
+    ensures { result ≡ (if is_control character then 32 else character) }
+{
     if character.is_ascii_control() {
-        text.push(' ')
+        ' '
     } else {
-        text.push(character)
+        character
     }
 }

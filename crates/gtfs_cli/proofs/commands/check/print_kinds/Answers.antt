@@ -5,7 +5,7 @@ use Rattle.std.proofs.lemmas.List.FromFn.{length-enumerate_from}
 use Rattle.gtfs_columns.specs.View.{problem_of}
 use Rattle.gtfs_cli.specs.CheckLines.{count_alike, first_line, is_alike}
 use Rattle.gtfs_cli.specs.LentKinds.{if_any}
-use Rattle.gtfs_cli.proofs.Kinds.{any-more, kind-line-at, kinds-end, kinds-inside}
+use Rattle.gtfs_cli.proofs.AlikeProblems.{any-more, kind-line-at, kinds-end, kinds-inside}
 use Rattle.gtfs_cli.proofs.SentLines.{line-failed, line-more, lines-passed, lines-sent, lines-unmade}
 use Rattle.gtfs_cli.proofs.commands.check.print_kinds.Goals as goal
 

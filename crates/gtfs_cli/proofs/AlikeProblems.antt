@@ -46,7 +46,7 @@ some-counted n m is = rw (no-zero m n is) refl
 pub one-counted : (f : Problem → Bool) (xs : List Problem) (i : ℕ) (d : Problem) → i < length xs → f (get_or xs i d) ≡ true → 0 < count_by f xs
 one-counted f [] i d inside e = absurd (omega (arith, inside))
 one-counted f (x ∷ xs) zero d inside e =
-    let one : cond (f x) 1 0 ≡ 1 = ap (λ b. cond b 1 0) e in
+    let one : cond {A = ℕ} (f x) 1 0 ≡ 1 = ap (λ b. cond {A = ℕ} b 1 0) e in
     omega (arith, one, count-cons f x xs)
 one-counted f (x ∷ xs) (suc i) d inside e =
     let more = one-counted f xs i d (omega (arith, inside)) e in
