@@ -1,7 +1,9 @@
 -- Problems of one code, file and column, and how many there are.
 use Rattle.std.proofs.Common.{◌≡◌, ◌∙◌, ap, sym, refl, zero, suc, ℕ, ◌+◌, ◌<◌, ◌≤◌, ◌==◌, Bool, true, false, cond, ◌||◌, ◌-◌, add-one, ◌++◌, List, [], ◌∷◌, length, map, take, get_or, Option, Some, None, arith}
-use Rattle.std.specs.Prelude.{count_by}
+use Rattle.std.specs.Prelude.{count_by, unwrap_or}
+use Rattle.std.specs.BTreeMap.{get, BTreeMap}
 use Rattle.std.specs.List.{enumerate_from, list_any}
+use Rattle.std.specs.Ordering.{is_eq}
 use Rattle.std.proofs.Math.Seq.{take-suc}
 use Rattle.std.proofs.lemmas.Grind.{common_steps}
 use Rattle.std.proofs.lemmas.List.{get_or-map, length-map}
@@ -14,7 +16,7 @@ use Rattle.gtfs_columns.specs.View.{problem_of}
 use Rattle.gtfs_columns.specs.declared.problem.Problem.{Problem as Lent}
 use Rattle.gtfs_columns.specs.steps.ProblemOrder.{problem_equal}
 use Rattle.gtfs_cli.specs.CheckLines.{count_alike, first_line, is_alike, kind_of, line_with, wanted_value}
-use Rattle.gtfs_cli.specs.LentKinds.{if_any, kind_line}
+use Rattle.gtfs_cli.specs.LentKinds.{if_any, kind_line, lent_cmp}
 use Rattle.gtfs_cli.proofs.Counted.{count-cons}
 
 -- ---- problems of one kind
@@ -41,6 +43,16 @@ some-counted n m is = rw (no-zero m n is) refl
   where
     no-zero : (m n : ℕ) → m ≡ n + 1 → (m == 0) ≡ false
     no-zero m n is = grind (arith, common_steps)
+
+pub if-any-back : (n : ℕ) → unwrap_or (if_any n) 0 ≡ n
+if-any-back n = by (n == 0) refl
+  where
+    zero-is : (n : ℕ) → (n == 0) ≡ true → n ≡ 0
+    zero-is n e = grind (arith, common_steps)
+
+    by : (b : Bool) → (n == 0) ≡ b → unwrap_or (if_any n) 0 ≡ n
+    by true e = ap (λ (c : Bool). unwrap_or (cond c None (Some n)) 0) e ∙ sym (zero-is n e)
+    by false e = ap (λ (c : Bool). unwrap_or (cond c None (Some n)) 0) e
 
 -- one that passes a test is counted
 pub one-counted : (f : Problem → Bool) (xs : List Problem) (i : ℕ) (d : Problem) → i < length xs → f (get_or xs i d) ≡ true → 0 < count_by f xs
@@ -79,6 +91,19 @@ module _ (ps : List Lent) (i : ℕ) (p : Lent) (inside : i < length ps) where
       by false e =
           let none = count_by_more_no (is_alike q) all i here within (ap (is_alike q) (found here) ∙ alike-turned q here ∙ e) in
           ap if_any (sym none)
+
+  -- the numbers of kinds once one more is counted, under this key
+  pub kind-counted : (key : Lent) → key ≡ record (get_or ps i p) { row = 0 } → (old new : BTreeMap Lent ℕ) (before : ℕ)
+      → before ≡ unwrap_or (get lent_cmp old key) 0
+      → ((q : Lent) → get lent_cmp old (record q { row = 0 }) ≡ if_any (count_alike (take i all) (problem_of q)))
+      → ((q : Lent) → get lent_cmp new q ≡ cond (is_eq (lent_cmp key q)) (Some (before + 1)) (get lent_cmp old q))
+      → (q : Lent) → get lent_cmp new (record q { row = 0 }) ≡ if_any (count_alike (take (i + 1) all) (problem_of q))
+  kind-counted key is old new before told held updates q =
+      let r : Lent = record q { row = 0 } in
+      let n : before ≡ count_alike (take i all) here =
+          told ∙ ap (λ k. unwrap_or (get lent_cmp old k) 0) is ∙ ap (λ o. unwrap_or o 0) (held (get_or ps i p)) ∙ if-any-back (count_alike (take i all) here) in
+      updates r ∙ ap (λ k. cond (is_eq (lent_cmp k r)) (Some (before + 1)) (get lent_cmp old r)) is
+      ∙ ap (λ o. cond (is_alike here (problem_of q)) (Some (before + 1)) o) (held q) ∙ counted-more before n (problem_of q)
 
   -- ---- what is printed at a problem
 

@@ -1,5 +1,5 @@
 -- How it ends to send lines out, one after another.
-use Rattle.std.proofs.Common.{◌≡◌, ◌∙◌, ap, sym, refl, ℕ, ◌+◌, ◌<◌, ◌≤◌, List, [], ◌∷◌, ◌++◌, append-nil, append_assoc, length, take, drop, take-append-drop, get_or, add-one, Result, Ok, Err}
+use Rattle.std.proofs.Common.{◌≡◌, ◌∙◌, ap, sym, subst, refl, ℕ, ◌+◌, ◌<◌, ◌≤◌, List, [], ◌∷◌, ◌++◌, append-nil, append_assoc, length, take, drop, take-append-drop, get_or, add-one, Result, Ok, Err}
 use Rattle.std.specs.Prelude.{IfErr, IsErrAnd, ⊤}
 use Rattle.std.proofs.KnownBytes.{Appends-nil, Appends-trans}
 use Rattle.std.proofs.Math.Seq.{take-suc}
@@ -59,6 +59,10 @@ module _ {T : Type 0} where
     sent = sent-passed (joined xs) a b e r is h.sent;
     stopped = λ memory. h.stopped (memory-told e (err-is r e is memory));
   }
+
+  -- the lines are others
+  pub lines-same : (xs ys : List (List ℕ)) (a b : Output) (r : Result T Refusal) → xs ≡ ys → AreSent xs a b r → AreSent ys a b r
+  lines-same xs ys a b r same h = subst (λ (ls : List (List ℕ)). AreSent ls a b r) same h
 
   -- what sent lines answers something else
   pub lines-whole : {S : Type 0} (xs : List (List ℕ)) (a b : Output) (did : S) (done : T) → AreSent xs a b (Ok did) → AreSent xs a b (Ok done)

@@ -132,10 +132,10 @@ fn print_kind<'w, O: Out>(
     ensures { AreSent (kind_line values tables.now (problem_of problem.now) count ∷ [])
         (⟦<O as OutSeen>⟧.seen out.old) (⟦<O as OutSeen>⟧.seen out.new) result }
 {
-    match count {
-        Some(_) => print_shown(line, values, tables, problem, count, out),
-        None => Ok(()),
+    if count.is_none() {
+        return Ok(());
     }
+    print_shown(line, values, tables, problem, count, out)
 }
 
 // Prints the line of a problem, with its value if values are shown.

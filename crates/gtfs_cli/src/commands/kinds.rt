@@ -1,9 +1,10 @@
 //! How many problems of a report have the same code, file and column.
-ghost use Rattle.std.specs.Prelude.{◌≡◌, if◌then◌else◌, map, None, IfOk};
+ghost use Rattle.std.specs.Prelude.{◌≡◌, if◌then◌else◌, map, unwrap_or, None, IfOk};
+ghost use Rattle.std.specs.BTreeMap.{get};
 ghost use Rattle.gtfs_columns.specs.View.{problem_of};
 ghost use Rattle.gtfs_columns.specs.declared.problem.Problem.{Problem as Lent};
 ghost use Rattle.gtfs_cli.specs.CheckLines.{count_alike, is_alike};
-ghost use Rattle.gtfs_cli.specs.LentKinds.{held_for, if_any};
+ghost use Rattle.gtfs_cli.specs.LentKinds.{held_for, if_any, lent_cmp};
 
 use gtfs_field::OutOfMemory;
 use gtfs_rules::Problem;
@@ -29,10 +30,7 @@ impl<'a> KindCounts<'a> {
         let mut counts = BTreeMap::new(alloc);
         for problem in problems {
             let kind = kind_of(problem);
-            let before = match counts.get(&kind) {
-                Some(count) => *count,
-                None => 0,
-            };
+            let before = count_of(&counts, &kind);
             counts.insert(kind, before + 1)?;
         }
         Ok(KindCounts { counts })
@@ -46,6 +44,16 @@ impl<'a> KindCounts<'a> {
             else held_for self.old q) }
     {
         self.counts.remove(&kind_of(problem))
+    }
+}
+
+// The number of a kind, which is 0 where none is held.
+fn count_of<'a>(counts: &BTreeMap<Problem<'a>, usize>, kind: &Problem<'a>) -> usize
+    ensures { result ≡ unwrap_or (get lent_cmp counts.now kind.now) 0 }
+{
+    match counts.get(kind) {
+        Some(count) => *count,
+        None => 0,
     }
 }
 

@@ -22,7 +22,7 @@ pub(crate) fn push_line(
     push_problem(text, problem)?;
     push_shown_value(text, value)?;
     push_shown_count(text, count)?;
-    text.push('\n')
+    text.push_str("\n")
 }
 
 fn push_shown_value(text: &mut String, value: Option<&str>) -> Result<(), OutOfMemory>
@@ -40,7 +40,7 @@ fn push_shown_count(text: &mut String, count: Option<usize>) -> Result<(), OutOf
 {
     match count {
         Some(count) => {
-            text.push('\t')?;
+            text.push_str("\t")?;
             text.push_str(Buffer::new().format(count))
         }
         None => Ok(()),

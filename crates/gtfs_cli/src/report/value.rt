@@ -20,7 +20,7 @@ pub(super) fn push_value(text: &mut String, value: &str) -> Result<(), OutOfMemo
 {
     text.push_str("\t\"")?;
     push_shown(text, value)?;
-    text.push('"')
+    text.push_str("\"")
 }
 
 fn push_shown(text: &mut String, value: &str) -> Result<(), OutOfMemory>

@@ -12,9 +12,6 @@ use Rattle.gtfs_cli.proofs.commands.check.print_kinds.Goals as goal
 pub returns-in_err-counts : goal.returns-in_err-counts
 returns-in_err-counts g c = lines-unmade _ _ c.from_residual.result c.from_residual.ensures.1
 
-pub loop-problem-initial : goal.loop-problem-initial
-loop-problem-initial g c = refl
-
 pub loop-problem-preserved : goal.loop-problem-preserved
 loop-problem-preserved g c =
     let ps = c.args.problems.now in
@@ -22,11 +19,11 @@ loop-problem-preserved g c =
     let i = c.loop-problem.problem-index in
     let inside = c.loop-problem-test.true in
     record {
-      counts = λ q. c.take.ensures.left q ∙ ap (λ r. cond (is_alike _ (problem_of q)) None r) (c.loop-problem.invariant.counts q)
+      counts = λ q. c.take-count.ensures.left q ∙ ap (λ r. cond (is_alike _ (problem_of q)) None r) (c.loop-problem.invariant.counts q)
           ∙ again (is_alike _ (problem_of q)) (list_any (is_alike (problem_of q)) (take i all)) (if_any (count_alike all (problem_of q)))
           ∙ ap (λ b. cond b None (if_any (count_alike all (problem_of q)))) (any-more ps i _ inside (problem_of q));
       sent = line-more (map (first_line c.args.values c.args.tables.now all) (enumerate_from 0 all)) i [] _
-          (kind-line-at ps i _ inside c.args.values c.args.tables.now c.take.result (c.take.ensures.taken ∙ c.loop-problem.invariant.counts _))
+          (kind-line-at ps i _ inside c.args.values c.args.tables.now c.take-count.result (c.take-count.ensures.taken ∙ c.loop-problem.invariant.counts _))
           (kinds-inside ps (first_line c.args.values c.args.tables.now all) i inside) _ _ _ _ c.loop-problem.invariant.sent c.in_ok-print_kind.ensures;
     }
   where
@@ -41,7 +38,7 @@ returns-in_err-print_kind g c =
     let i = c.loop-problem.problem-index in
     let inside = c.loop-problem-test.true in
     line-failed (map (first_line c.args.values c.args.tables.now all) (enumerate_from 0 all)) i [] _
-    (kind-line-at ps i _ inside c.args.values c.args.tables.now c.take.result (c.take.ensures.taken ∙ c.loop-problem.invariant.counts _))
+    (kind-line-at ps i _ inside c.args.values c.args.tables.now c.take-count.result (c.take-count.ensures.taken ∙ c.loop-problem.invariant.counts _))
     (kinds-inside ps (first_line c.args.values c.args.tables.now all) i inside) _ _ _ _ c.from_residual-in_err-print_kind.result c.from_residual-in_err-print_kind.ensures.1
     c.loop-problem.invariant.sent c.in_err-print_kind.ensures
 

@@ -1,12 +1,11 @@
-use Rattle.std.proofs.Common.{[], ◌∷◌, List, map, subst, ℕ}
+use Rattle.std.proofs.Common.{[], ◌∷◌, map}
 use Rattle.gtfs_columns.specs.View.{problem_of}
 use Rattle.gtfs_commands.specs.Words.{check_texts_of}
 use Rattle.gtfs_rules.specs.Report.{counts_line}
 use Rattle.gtfs_cli.specs.CheckLines.{problem_lines}
-use Rattle.gtfs_cli.specs.Sending.{AreSent}
 use Rattle.gtfs_cli.proofs.Counted.{error-counted}
 use Rattle.gtfs_cli.proofs.Reported.{counts-told}
-use Rattle.gtfs_cli.proofs.SentLines.{lines-both, lines-first, lines-passed, lines-whole}
+use Rattle.gtfs_cli.proofs.SentLines.{lines-both, lines-first, lines-passed, lines-same, lines-whole}
 use Rattle.gtfs_cli.proofs.commands.check.print_problems.Goals as goal
 
 pub returns-in_err-print_lines-clause-sent : goal.returns-in_err-print_lines-clause-sent
@@ -18,7 +17,7 @@ pub returns-in_err-print_counts-clause-sent : goal.returns-in_err-print_counts-c
 returns-in_err-print_counts-clause-sent g c =
     let ps = map problem_of c.args.problems.now in
     let errors = c.errors_among-errors.result in
-    let counts = subst (λ (ls : List (List ℕ)). AreSent ls _ _ _) (counts-told c.args.problems.now errors c.errors_among-errors.ensures.value c.errors_among-errors.ensures.within) c.in_err-print_counts.ensures in
+    let counts = lines-same _ _ _ _ _ (counts-told c.args.problems.now errors c.errors_among-errors.ensures.value c.errors_among-errors.ensures.within) c.in_err-print_counts.ensures in
     lines-both (problem_lines (check_texts_of c.args.words.now) c.args.tables.now ps) (counts_line ps ∷ []) _ _ _ _ c.from_residual-in_err-print_counts.result c.in_ok-print_lines.ensures
     (lines-passed (counts_line ps ∷ []) _ _ _ c.from_residual-in_err-print_counts.result c.from_residual-in_err-print_counts.ensures.1 counts)
 
@@ -26,7 +25,7 @@ pub returns-clause-sent : goal.returns-clause-sent
 returns-clause-sent g c =
     let ps = map problem_of c.args.problems.now in
     let errors = c.errors_among-errors.result in
-    let counts = subst (λ (ls : List (List ℕ)). AreSent ls _ _ _) (counts-told c.args.problems.now errors c.errors_among-errors.ensures.value c.errors_among-errors.ensures.within) c.in_ok-print_counts.ensures in
+    let counts = lines-same _ _ _ _ _ (counts-told c.args.problems.now errors c.errors_among-errors.ensures.value c.errors_among-errors.ensures.within) c.in_ok-print_counts.ensures in
     lines-both (problem_lines (check_texts_of c.args.words.now) c.args.tables.now ps) (counts_line ps ∷ []) _ _ _ _ _ c.in_ok-print_lines.ensures
     (lines-whole (counts_line ps ∷ []) _ _ _ _ counts)
 
