@@ -7,7 +7,7 @@ use Rattle.gtfs_columns.specs.Problems.{Problem}
 use Rattle.gtfs_columns.specs.View.{problem_of}
 use Rattle.gtfs_columns.specs.declared.problem.Problem.{Problem as Lent}
 use Rattle.gtfs_rules.specs.Report.{counts_line}
-use Rattle.gtfs_cli.specs.Checking.{counts_text}
+use Rattle.gtfs_cli.specs.CheckLines.{counts_text}
 use Rattle.gtfs_cli.proofs.Counted.{counts-line}
 
 module _ (ps : List Lent) where

@@ -9,7 +9,7 @@ use Rattle.gtfs_columns.specs.Codes.{code_name, code_text}
 use Rattle.gtfs_columns.specs.Problems.{kept, name_bytes, other, problem_cmp, FileName, Problem}
 use Rattle.gtfs_columns.specs.Values.{plain}
 use Rattle.gtfs_commands.specs.Words.{CheckTexts}
-use Rattle.gtfs_rules.specs.Report.{counts_line, problem_line}
+use Rattle.gtfs_rules.specs.Report.{problem_line}
 
 -- ---- the value of a problem
 
@@ -80,9 +80,11 @@ first_line values d ps at =
 
 -- ---- all lines
 
+-- the last line of a report with so many errors and warnings
+abbrev pub counts_text : ℕ → ℕ → List ℕ
+counts_text errors warnings = codes "errors " ++ decimal errors ++ codes " warnings " ++ decimal warnings ++ codes "\n"
+
+-- a line for each problem, or for the first of each kind
 abbrev pub problem_lines : CheckTexts → Dataset → List Problem → List (List ℕ)
 problem_lines asked d ps =
     if asked.summary then map (first_line asked.values d ps) (enumerate_from 0 ps) else map (line_of asked.values d) ps
-
-abbrev pub check_lines : CheckTexts → Dataset → List Problem → List (List ℕ)
-check_lines asked d ps = problem_lines asked d ps ++ counts_line ps ∷ []

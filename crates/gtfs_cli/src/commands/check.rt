@@ -1,33 +1,45 @@
-ghost use Rattle.std.specs.Prelude.{◌≡◌, ◌≤◌, ◌∷◌, [], not, map, count_by, length, option_map, IfOk};
-ghost use Rattle.std.specs.List.{enumerate_from};
+//! `gtfs check`: what is wrong with a feed and, where nothing is an error, advice on it.
+ghost use Rattle.std.specs.Prelude.{◌≡◌, ◌≤◌, ◌≢◌, ◌&&◌, ◌∷◌, [], not, true, false, if◌then◌else◌, map, count_by, length, option_map, None, Some, IfOk, IfErr};
 ghost use Rattle.gtfs_columns.specs.Codes.{is_error};
 ghost use Rattle.gtfs_columns.specs.Problems.{passes};
 ghost use Rattle.gtfs_columns.specs.View.{problem_of};
+ghost use Rattle.gtfs_rows.specs.Reading.{content_of};
+ghost use Rattle.gtfs_rows.specs.Views.{content_of_parts};
 ghost use Rattle.gtfs_commands.specs.Words.{check_texts_of};
-ghost use Rattle.gtfs_cli.specs.CheckLines.{check_lines, first_line, line_of, line_with, problem_lines, problem_value, wanted_value};
-ghost use Rattle.gtfs_cli.specs.Checking.{check_plan, counts_text};
-ghost use Rattle.gtfs_cli.specs.LentKinds.{kind_line};
+ghost use Rattle.gtfs_cli.specs.CheckLines.{counts_text, problem_lines};
+ghost use Rattle.gtfs_cli.specs.CheckOptions.{judged_check, lacks_advise, IsLack};
+ghost use Rattle.gtfs_cli.specs.Checking.{check_plan};
+ghost use Rattle.gtfs_cli.specs.Judging.{IsFirstBad};
+ghost use Rattle.gtfs_cli.specs.LentChecks.{lines_after, IsBegun, IsUnread};
+ghost use Rattle.gtfs_cli.specs.Options.{day_if_given};
 ghost use Rattle.gtfs_cli.specs.Plan.{Ends};
 ghost use Rattle.gtfs_cli.specs.Sending.{AreSent};
 
+use crate::commands::advice::print_advice;
 use crate::commands::folder::read_tables;
-use crate::commands::kinds::KindCounts;
+use crate::commands::moments::read_day_if_given;
+use crate::commands::problems::print_lines;
 use crate::commands::refusal::Refusal;
 use crate::commands::send::send;
-use crate::report::{push_counts, push_line};
+use crate::report::push_counts;
 use crate::seen::{DevicesSeen, OutSeen};
-use gtfs_columns::FileName;
 use gtfs_commands::CheckTexts;
-use gtfs_rules::{Problem, check};
+use gtfs_feed::FeedDraft;
+use gtfs_field::{Day, OutOfMemory};
+use gtfs_rules::{Problem, Report, check};
 use gtfs_table::{Folders, Out, Tables};
 use std::alloc::Global;
+use std::hash::RandomState;
 
 // Prints the report of the feed in a folder: a line for each of its problems, or for each kind of
-// them, and one with their counts. Answers whether one of them is an error.
-// Errors: `NotThere`, `Unreadable` and `OverLimit` of the folder, `OutputFailed` at any line,
-// and `OutOfMemory` at any point.
+// them, then the advice that is asked for, if no problem is an error, and the counts. Answers
+// whether one of the problems is an error.
+// Errors: In the order in which they are judged: `DayWithoutAdvice`, `BadValue`; `NotThere`,
+// `Unreadable` and `OverLimit` of the folder; `OutputFailed` at any line. `OutOfMemory` at any
+// point.
 pub(super) fn print_report<'w, F: Folders, O: Out>(
     alloc: Global,
+    random: RandomState,
     words: &CheckTexts<'w>,
     folders: &mut F,
     out: &mut O,
@@ -36,148 +48,117 @@ pub(super) fn print_report<'w, F: Folders, O: Out>(
         (⟦<(F, O) as DevicesSeen>⟧.seen (folders.old, out.old))
         (⟦<(F, O) as DevicesSeen>⟧.seen (folders.new, out.new)) result }
 {
+    let day = read_day(words)?;
     let tables = read_tables(alloc, folders, words.dir, Vec::new(alloc))?;
     let report = check(alloc, &tables)?;
-    print_problems(alloc, words, &tables, report.problems(), out)
+    let begun = print_begun(alloc, random, words, &tables, report, out)?;
+    drop(tables);
+    print_rest(alloc, random, words, day, begun, out)
 }
 
-// Prints the problems of a report, each line sent out whole before the next is made, and their
-// counts. Answers whether one of them is an error.
-fn print_problems<'w, O: Out>(
+// The day that is given, if there is one. It is taken with advice alone.
+// Errors: `DayWithoutAdvice`, and then `BadValue`.
+fn read_day<'w>(words: &CheckTexts<'w>) -> Result<Option<Day>, Refusal<'w>>
+    ensures wanted { IfOk result (λ _. lacks_advise (check_texts_of words.now) ≡ false) }
+    ensures read { IfOk result (λ day. day_if_given (option_map (λ t. t.now) words.now.day)
+        ≡ Some day) }
+    ensures refused { IfErr result (IsUnread (check_texts_of words.now)) }
+{
+    if words.day.is_some() && !words.advise {
+        return Err(Refusal::DayWithoutAdvice);
+    }
+    match read_day_if_given(words.day) {
+        Some(day) => Ok(day),
+        None => Err(Refusal::BadValue("--day")),
+    }
+}
+
+// What is left of a check once the lines of its problems went out.
+#[derive(Drop)]
+struct Begun {
+    // A text that was used for lines.
+    line: String,
+    errors: usize,
+    warnings: usize,
+    // The feed, if it gets advice.
+    draft: Option<FeedDraft>,
+}
+
+// Prints the lines of a report's problems.
+fn print_begun<'w, O: Out>(
     alloc: Global,
+    random: RandomState,
     words: &CheckTexts<'w>,
     tables: &Tables,
-    problems: &[Problem<'_>],
+    report: Report<'_>,
     out: &mut O,
-) -> Result<bool, Refusal<'w>>
-    ensures sent { AreSent (check_lines (check_texts_of words.now) tables.now
-        (map problem_of problems.now)) (⟦<O as OutSeen>⟧.seen out.old)
-        (⟦<O as OutSeen>⟧.seen out.new) result }
-    ensures answer { IfOk result (λ failed. failed ≡ not (passes (map problem_of problems.now))) }
+) -> Result<Begun, Refusal<'w>>
+    requires { report.entry.dataset ≡ tables.now }
+    ensures sent { AreSent (problem_lines (check_texts_of words.now) tables.now report.entry.problems)
+        (⟦<O as OutSeen>⟧.seen out.old) (⟦<O as OutSeen>⟧.seen out.new) result }
+    ensures begun { IfOk result (IsBegun (check_texts_of words.now) tables.now report.entry.problems) }
 {
+    let problems = report.problems();
     let mut line = String::new(alloc);
     print_lines(alloc, &mut line, words, tables, problems, out)?;
     let errors = errors_among(problems);
-    print_counts(&mut line, errors, problems.len() - errors, out)?;
-    Ok(errors > 0)
+    let warnings = problems.len() - errors;
+    Ok(Begun {
+        line,
+        errors,
+        warnings,
+        draft: draft_if_advised(alloc, random, words.advise, report)?,
+    })
 }
 
-// Prints the lines of problems, or of their kinds.
-fn print_lines<'w, O: Out>(
+// The feed of tables that passed, if it gets advice.
+fn draft_if_advised(
     alloc: Global,
-    line: &mut String,
+    random: RandomState,
+    advise: bool,
+    report: Report<'_>,
+) -> Result<Option<FeedDraft>, OutOfMemory>
+    ensures { IfOk result (λ draft. option_map content_of_parts draft
+        ≡ (if advise && passes report.entry.problems then Some (content_of report.entry.dataset) else None)) }
+{
+    if !advise {
+        return Ok(None);
+    }
+    match report.passed() {
+        Ok(passed) => Ok(Some(FeedDraft::new(alloc, random, passed)?)),
+        Err(_) => Ok(None),
+    }
+}
+
+// Prints the advice, if there is to be some, and the counts.
+// Answers whether one of the problems is an error.
+fn print_rest<'w, O: Out>(
+    alloc: Global,
+    random: RandomState,
     words: &CheckTexts<'w>,
-    tables: &Tables,
-    problems: &[Problem<'_>],
+    day: Option<Day>,
+    begun: Begun,
     out: &mut O,
-) -> Result<(), Refusal<'w>>
-    ensures { AreSent (problem_lines (check_texts_of words.now) tables.now
-        (map problem_of problems.now)) (⟦<O as OutSeen>⟧.seen out.old)
-        (⟦<O as OutSeen>⟧.seen out.new) result }
-{
-    if words.summary {
-        print_kinds(alloc, line, words.values, tables, problems, out)
-    } else {
-        print_each(line, words.values, tables, problems, out)
-    }
-}
-
-// Prints a line for each problem.
-fn print_each<'w, O: Out>(
-    line: &mut String,
-    values: bool,
-    tables: &Tables,
-    problems: &[Problem<'_>],
-    out: &mut O,
-) -> Result<(), Refusal<'w>>
-    ensures { AreSent (map (line_of values tables.now) (map problem_of problems.now))
+) -> Result<bool, Refusal<'w>>
+    ensures sent { AreSent (lines_after words.now.summary day begun.entry)
         (⟦<O as OutSeen>⟧.seen out.old) (⟦<O as OutSeen>⟧.seen out.new) result }
+    ensures answer { IfOk result (λ failed. failed ≡ nat_lt 0 begun.entry.errors) }
 {
-    for problem in problems {
-        let value = shown_value(values, tables, problem);
-        print_line(line, problem, value, None, out)?;
-    }
-    Ok(())
-}
-
-// Prints a line for the first problem of each kind, with how many there are of it.
-fn print_kinds<'w, O: Out>(
-    alloc: Global,
-    line: &mut String,
-    values: bool,
-    tables: &Tables,
-    problems: &[Problem<'_>],
-    out: &mut O,
-) -> Result<(), Refusal<'w>>
-    ensures { AreSent (map (first_line values tables.now (map problem_of problems.now))
-        (enumerate_from 0 (map problem_of problems.now)))
-        (⟦<O as OutSeen>⟧.seen out.old) (⟦<O as OutSeen>⟧.seen out.new) result }
-{
-    let mut counts = KindCounts::of(alloc, problems)?;
-    for problem in problems {
-        let count = counts.take(problem);
-        print_kind(line, values, tables, problem, count, out)?;
-    }
-    Ok(())
-}
-
-// Prints the line of a kind of problems at its first one, of which the number is given.
-fn print_kind<'w, O: Out>(
-    line: &mut String,
-    values: bool,
-    tables: &Tables,
-    problem: &Problem<'_>,
-    count: Option<usize>,
-    out: &mut O,
-) -> Result<(), Refusal<'w>>
-    ensures { AreSent (kind_line values tables.now (problem_of problem.now) count ∷ [])
-        (⟦<O as OutSeen>⟧.seen out.old) (⟦<O as OutSeen>⟧.seen out.new) result }
-{
-    match count {
-        Some(count) => {
-            let value = shown_value(values, tables, problem);
-            print_line(line, problem, value, Some(count), out)
+    let Begun {
+        mut line,
+        errors,
+        warnings,
+        draft,
+    } = begun;
+    match draft {
+        Some(draft) => {
+            let feed = draft.into_feed(alloc, random)?;
+            let counts = (errors, warnings);
+            print_advice(alloc, &mut line, words.summary, &feed, day, counts, out)?;
         }
-        None => Ok(()),
+        None => print_counts(&mut line, errors, warnings, out)?,
     }
-}
-
-// Sends the line of a problem out. It is made in a text that was used before.
-fn print_line<'w, O: Out>(
-    line: &mut String,
-    problem: &Problem<'_>,
-    value: Option<&str>,
-    count: Option<usize>,
-    out: &mut O,
-) -> Result<(), Refusal<'w>>
-    ensures { AreSent (line_with (problem_of problem.now) (option_map (λ v. v.now) value) count ∷ [])
-        (⟦<O as OutSeen>⟧.seen out.old) (⟦<O as OutSeen>⟧.seen out.new) result }
-{
-    line.clear();
-    push_line(line, problem, value, count)?;
-    send(line.as_bytes(), out)
-}
-
-// The value of a problem, if values are shown.
-fn shown_value<'t>(values: bool, tables: &'t Tables, problem: &Problem<'_>) -> Option<&'t str>
-    ensures { option_map (λ v. v.now) result
-        ≡ wanted_value values tables.now (problem_of problem.now) }
-{
-    if values {
-        Some(value_of(tables, problem))
-    } else {
-        None
-    }
-}
-
-// The value of a problem's column in its row. The header and a file as a whole have none.
-fn value_of<'t>(tables: &'t Tables, problem: &Problem<'_>) -> &'t str
-    ensures { result.now ≡ problem_value tables.now (problem_of problem.now) }
-{
-    match problem.file {
-        FileName::Kept(file) if problem.row > 1 => tables.value(file, problem.row, problem.column),
-        FileName::Kept(_) | FileName::Other(_) => "",
-    }
+    Ok(errors > 0)
 }
 
 // Sends the line of the counts out, in the same way.

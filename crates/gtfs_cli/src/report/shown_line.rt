@@ -25,6 +25,7 @@ pub(crate) fn push_line(
     text.push('\n')
 }
 
+// Appends a value, if it is shown.
 fn push_shown_value(text: &mut String, value: Option<&str>) -> Result<(), OutOfMemory>
     ensures { OnOk result (string_bytes text.new
         ≡ string_bytes text.old ++ values_shown (option_map (λ v. v.now) value)) }
@@ -35,7 +36,8 @@ fn push_shown_value(text: &mut String, value: Option<&str>) -> Result<(), OutOfM
     }
 }
 
-fn push_shown_count(text: &mut String, count: Option<usize>) -> Result<(), OutOfMemory>
+// Appends the number of a kind, if it is shown.
+pub(super) fn push_shown_count(text: &mut String, count: Option<usize>) -> Result<(), OutOfMemory>
     ensures { OnOk result (string_bytes text.new ≡ string_bytes text.old ++ count_shown count) }
 {
     match count {
