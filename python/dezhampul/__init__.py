@@ -13,11 +13,11 @@ from .faults import (
 from .feed import Feed
 from .merges import Merged, Renamed, merge
 from .naming import Names, Route, Stop, names
-from .reports import Problem, Report, check
+from .reports import Advice, Problem, Report, check
 from .sheets import Sheet
 from .version import VERSION as __version__
 
 __all__ = [
-    "BrokenProcess", "Departure", "DeviceFault", "Feed", "HasErrors", "Merged", "Names", "NoProgram", "NoZone", "OutOfMemory", "Problem",
-    "Refused", "Renamed", "Report", "Route", "Sheet", "Stop", "UnknownRoute", "UnknownStop", "__version__", "check", "merge", "names",
+    "Advice", "BrokenProcess", "Departure", "DeviceFault", "Feed", "HasErrors", "Merged", "Names", "NoProgram", "NoZone", "OutOfMemory",
+    "Problem", "Refused", "Renamed", "Report", "Route", "Sheet", "Stop", "UnknownRoute", "UnknownStop", "__version__", "check", "merge", "names",
 ]

@@ -125,7 +125,13 @@ class Broken(Case):
 
     def test_reports_of_nonsense(self):
         """reports that are none, and statuses that do not fit them"""
-        for text in ("", "errors 0 warnings 0", "E07\nerrors 1 warnings 0\n", "errors x warnings 0\n", "errors 1 warnings 0\n", "\xff\n"):
+        problem, advice = "W01 stops.txt:2 - short row", "A03 stops.txt\tS3\tno trip stops here"
+        for text in (
+            "", "errors 0 warnings 0", "E07\nerrors 1 warnings 0\n", "errors x warnings 0\n", "errors 1 warnings 0\n", "\xff\n",
+            f"{problem}\t\nerrors 0 warnings 1\n", f'{problem}\t"\nerrors 0 warnings 1\n', f'{problem}\t""x\nerrors 0 warnings 1\n',
+            f"{advice}\nerrors 0 warnings 0\n", f"{advice}\nerrors 0 warnings 0 advice 2\n", "errors 0 warnings 0 advice 1\n",
+            "A03 stops.txt\tS3\nerrors 0 warnings 0 advice 1\n", f"{advice}\t1\nerrors 0 warnings 0 advice 1\n",
+        ):
             self.stand_in(f"import sys\nsys.stdout.buffer.write({text!r}.encode('latin-1'))", begin="")
             self.want_broken(lambda: dezhampul.check(example("f1")))
             self.want_broken(lambda: dezhampul.merge(example("f1"), example("f1"), self.path("out")))
