@@ -3,7 +3,7 @@
 # What may stand behind a command: a number of folders, and options with the names of their values, as in the usage.
 _gtfs_expect() {
     case $1 in
-        check) folders=1 ;;
+        check) folders=1 options+=([--values]='' [--summary]='' [--advise]='' [--day]=D) ;;
         board) folders=1 options+=([--zone]=FILE [--stop]=ID [--from]=T [--until]=T [--limit]=N [--after]=KEY [--interpolate]='') ;;
         boards) folders=1 options+=([--zone]=FILE [--requests]=FILE [--interpolate]='') ;;
         serve) folders=1 options+=([--zone]=FILE [--interpolate]='') ;;

@@ -25,7 +25,7 @@ function __gtfs_wants_folder -a command most
             set behind_option no
         else if not string match -q -- '-*' $word
             set named (math $named + 1)
-        else if not contains -- $word -h --help --interpolate; and not string match -q -- '*=*' $word
+        else if not contains -- $word -h --help --interpolate --values --summary --advise; and not string match -q -- '*=*' $word
             set behind_option yes
         end
     end
@@ -38,6 +38,12 @@ complete -c gtfs -n __gtfs_begins -s V -l version -d 'Print version'
 
 complete -c gtfs -n __gtfs_begins -a check -d 'Print what is wrong with a feed'
 complete -c gtfs -n '__gtfs_takes check help' -s h -l help -d 'Print help'
+complete -c gtfs -n '__gtfs_takes check values' -l values -d 'Each problem with the value that is wrong, in quotes'
+complete -c gtfs -n '__gtfs_takes check summary' -l summary \
+    -d 'Of problems with one code, file and column the first alone, with their number'
+complete -c gtfs -n '__gtfs_takes check advise' -l advise \
+    -d 'Advice on a feed without errors: what is allowed, and yet most often a slip'
+complete -c gtfs -n '__gtfs_takes check day' -l day -x -d 'Advise where fewer than seven days of service are left on D'
 complete -c gtfs -n '__gtfs_wants_folder check 1' -a '(__fish_complete_directories)'
 
 complete -c gtfs -n __gtfs_begins -a board -d 'Print the departures at a stop, in the order of their times'

@@ -7,9 +7,8 @@ import dezhampul
 
 def errors_of(folder):
     """A line for each error of a feed. Warnings do not keep it from being used."""
-    report = dezhampul.check(folder)
-    errors = [problem for problem in report.problems if problem.code.startswith("E")]
-    return [f"{folder}: {error.file}, row {error.row}: {error.column or 'the whole file'}: {error.text}" for error in errors]
+    problems = dezhampul.check(folder).problems
+    return [f"{folder}: {problem}" for problem in problems if problem.code.startswith("E")]
 
 
 def join(first, second, out):

@@ -75,13 +75,24 @@ async function loadNames() {
   place("day").value ||= told.now.slice(0, 10);
 }
 
-/** The id of the stop with this label, or of the only one with this text in its label. */
+/** The ids that a text may mean, by the labels of stops: of the label or the id that is the same, or else of all labels with it. */
+function fitting(labels, text) {
+  const exact = text.trim();
+  const wanted = exact.toLowerCase();
+  const stops = [...labels].map(([label, id]) => ({ label: label.toLowerCase(), id }));
+  const same =
+    stops.find((stop) => stop.label === wanted) ??
+    stops.find((stop) => stop.id === exact) ??
+    stops.find((stop) => stop.id.toLowerCase() === wanted);
+  const found = same ? [same] : stops.filter((stop) => stop.label.includes(wanted));
+  return found.map((stop) => stop.id);
+}
+
+/** The id of the only stop that fits a text. Otherwise it is said how many do. */
 function stopOf(text) {
-  const wanted = text.trim().toLowerCase();
-  const labels = [...names.labels.keys()].filter((label) => label.toLowerCase().includes(wanted));
-  const found = labels.find((label) => label.toLowerCase() === wanted) ?? (labels.length === 1 ? labels[0] : undefined);
-  if (found) return names.labels.get(found);
-  say(labels.length ? `${labels.length} stops fit “${text}”. Choose one of the list.` : `No stop is called “${text}”.`);
+  const found = fitting(names.labels, text);
+  if (found.length === 1) return found[0];
+  say(found.length ? `${found.length} stops fit “${text}”. Choose one of the list.` : `No stop has the name or the id “${text}”.`);
   return undefined;
 }
 
@@ -182,7 +193,7 @@ async function pollBoard(stop, isShown) {
     board = told;
     write(place("board-title"), nameOf(stop));
     place("board").hidden = false;
-    say(told.departures.length ? "" : "Nothing departs here within a week.");
+    say(told.departures.length ? "" : "Nothing departs here within a week. The feed may have ended.");
     drawBoard();
     return POLL;
   } catch (fault) {

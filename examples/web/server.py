@@ -2,6 +2,7 @@
 """Shows the departures and the timetables of a feed in a browser."""
 import argparse
 import contextlib
+import errno
 import json
 import sys
 import threading
@@ -10,7 +11,6 @@ from datetime import date, datetime, timedelta, timezone
 from http.server import BaseHTTPRequestHandler, ThreadingHTTPServer
 from pathlib import Path
 from urllib.parse import parse_qsl
-from zoneinfo import ZoneInfo
 
 import dezhampul
 
@@ -46,9 +46,7 @@ class Opened:
 
     def __init__(self, folder, how):
         self.feed, self.read = dezhampul.Feed(folder, **how), time.time()
-        self.names = dezhampul.names(folder)
-        with open(self.feed.zone, "rb") as file:
-            self.zone = ZoneInfo.from_file(file)
+        self.names, self.zone = dezhampul.names(folder), self.feed.now().tzinfo
 
 
 class Source:
@@ -118,9 +116,8 @@ def refusal_of(fault):
     """The status of a fault, and what is told of it."""
     status, words = next(refusal[1:] for refusal in REFUSALS if isinstance(fault, refusal[0]))
     problems = fault.report.problems if isinstance(fault, dezhampul.HasErrors) else ()
-    errors = [error for error in problems if error.code.startswith("E")][:ERRORS]
-    lines = [f"{error.file}, row {error.row}: {error.column or 'the whole file'}: {error.text}" for error in errors]
-    return status, {"error": words, "problems": lines}
+    errors = [str(problem) for problem in problems if problem.code.startswith("E")]
+    return status, {"error": words, "problems": errors[:ERRORS]}
 
 
 class Handler(BaseHTTPRequestHandler):
@@ -191,7 +188,8 @@ def main():
     except LOST:
         sys.exit(1)
     except (dezhampul.Refused, OSError) as fault:
-        sys.exit(f"server: {fault}")
+        is_taken = getattr(fault, "errno", None) == errno.EADDRINUSE
+        sys.exit(f"server: port {given.port} is in use: try --port {given.port + 1}" if is_taken else f"server: {fault}")
 
 
 if __name__ == "__main__":

@@ -1,10 +1,9 @@
 """`python -m dezhampul` tells the versions of the package and of the program that it found. `gtfs` is the command of the wheel."""
 import os
-import subprocess
 import sys
 
-from .faults import NoProgram
-from .program import BUNDLED, environment, find_program, version_of
+from .faults import BrokenProcess, NoProgram
+from .program import BUNDLED, environment, find_program, version
 from .version import VERSION
 
 
@@ -18,15 +17,12 @@ def gtfs() -> None:
 
 
 def main() -> None:
-    """Prints a line of the package and one of the program, and ends with status 1 where there is none."""
+    """Prints a line of the package and one of the program. Where there is no program or it fails, it says so and ends with status 1."""
     print(f"dezhampul {VERSION}")
     try:
-        program = find_program()
-        status, line = version_of(program)
-    except (NoProgram, OSError, subprocess.SubprocessError) as fault:
+        print(f"{version()} ({find_program()})")
+    except (NoProgram, BrokenProcess) as fault:
         sys.exit(f"dezhampul: {fault}")
-    print(f"{line} ({program})")
-    sys.exit(1 if status else 0)
 
 
 if __name__ == "__main__":

@@ -1,5 +1,5 @@
 """What is raised where the program gives no answer."""
-from typing import TYPE_CHECKING, Dict, Type
+from typing import TYPE_CHECKING, Dict, Tuple, Type
 
 if TYPE_CHECKING:
     from .reports import Report
@@ -9,16 +9,17 @@ class Refused(Exception):
     """The program refused what it was asked for.
 
     `status` is the exit status of the command, or for a request the one with which the command of its name would have ended: 1 to 4.
-    `message` is the reason in the program's words, as `until lies before from`.
+    `message` is the reason in the program's words, as `until lies before from`. The text of the exception is the same, or says more.
     """
 
-    def __init__(self, status: int, message: str) -> None:
-        super().__init__(status, message)
+    def __init__(self, status: int, message: str, text: str = "") -> None:
+        super().__init__(status, message, text)
         self.status = status
         self.message = message
+        self._text = text or message
 
     def __str__(self) -> str:
-        return self.message
+        return self._text
 
 
 class UnknownStop(Refused):
@@ -32,9 +33,9 @@ class UnknownRoute(Refused):
 class HasErrors(Refused):
     """The feed has errors, so it has no boards, timetables and merges. The status is 1, and `report` is that of `check`."""
 
-    def __init__(self, status: int, message: str, report: "Report") -> None:
-        super().__init__(status, message)
-        self.args = (status, message, report)
+    def __init__(self, status: int, message: str, report: "Report", text: str = "") -> None:
+        super().__init__(status, message, text)
+        self.args = (status, message, report, text)
         self.report = report
 
 
@@ -61,14 +62,20 @@ class NoZone(LookupError):
     """No zone file was found for the `agency_timezone` of a feed. Name one: `zone="path"`."""
 
 
-_BY_MESSAGE: Dict[str, Type[Refused]] = {"unknown stop": UnknownStop, "unknown route": UnknownRoute}
+# The exceptions about an id that the feed has not, and what they say of it.
+_BY_MESSAGE: Dict[str, Tuple[Type[Refused], str]] = {
+    "unknown stop": (UnknownStop, "the feed has no stop {!r}"),
+    "unknown route": (UnknownRoute, "the feed has no route {!r}; routes are asked for by route_id"),
+}
 _BY_STATUS: Dict[int, Type[Refused]] = {3: DeviceFault, 4: OutOfMemory}
 
 
-def refusal(status: int, message: str) -> Refused:
-    """The exception for a status from 1 to 4 and the reason that the program gave."""
-    kind = _BY_MESSAGE.get(message) or _BY_STATUS.get(status) or Refused
-    return kind(status, message)
+def refusal(status: int, message: str, name: str = "") -> Refused:
+    """The exception for a status from 1 to 4 and the reason that the program gave, about the id that was asked for."""
+    if message in _BY_MESSAGE:
+        kind, text = _BY_MESSAGE[message]
+        return kind(status, message, text.format(name[:200]))
+    return _BY_STATUS.get(status, Refused)(status, message)
 
 
 def is_about_errors(fault: Exception) -> bool:

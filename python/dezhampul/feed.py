@@ -1,18 +1,19 @@
 """A feed that is read once and then asked again and again."""
 import os
 import threading
-from datetime import date, datetime, timezone
+from datetime import date, datetime, timezone, tzinfo
 from types import TracebackType
 from typing import Iterator, List, Optional, Tuple, Type
 
 from .departures import Departure, departure_of
-from .faults import BrokenProcess, HasErrors, NoZone, Refused, is_about_errors, refusal
+from .faults import BrokenProcess, NoZone, Refused, is_about_errors, refusal
+from .folders import errors_of, explained
 from .paths import Path
 from .process import Process
 from .reports import check
 from .requests import Moment, board_request, text_of_id, text_of_moment, timetable_request
 from .sheets import Sheet, sheets_of
-from .zones import zone_file
+from .zones import zone_file, zone_of
 
 # The most departures that are asked for at once, so that memory does not grow with the span and no request takes long.
 _PAGE = 1000
@@ -50,6 +51,7 @@ class Feed:
         self._lock = threading.Lock()
         self._is_closed = False
         self._zone = self._find_zone(zone)
+        self._tzinfo: Optional[tzinfo] = None
         self._words = ["serve", f"--zone={self._zone}", *(["--interpolate"] if interpolate else []), "--", self._folder]
         self._process: Optional[Process] = self._start()
 
@@ -57,6 +59,14 @@ class Feed:
     def zone(self) -> str:
         """The path of the zone file."""
         return self._zone
+
+    def now(self) -> datetime:
+        """The time at the stops now: an aware datetime, with the zone of the feed as its `tzinfo`.
+
+        Raises `DeviceFault` where Python cannot read the zone file, and `NotImplementedError` before Python 3.9, which has no zoneinfo.
+        """
+        self._tzinfo = self._tzinfo or zone_of(self._zone)
+        return datetime.now(timezone.utc).astimezone(self._tzinfo)
 
     def board(
         self, stop: str, begin: Moment, end: Moment, *, limit: Optional[int] = None, after: Optional[str] = None
@@ -77,7 +87,10 @@ class Feed:
         return self._pages(text_of_id(stop), span, limit, None if after is None else text_of_id(after))
 
     def next(self, stop: str, count: Optional[int] = None) -> Iterator[Departure]:
-        """The next departures at a stop from now on, as many as `count`, or all that there ever are. Raises as `board` does."""
+        """The next departures at a stop from now on, as many as `count`, or all that there ever are. Raises as `board` does.
+
+        Where there is none, the feed has probably expired.
+        """
         return self.board(stop, datetime.now(timezone.utc), _LAST_DAY, limit=count)
 
     def timetable(self, route: str, day: date, direction: Optional[int] = None) -> Iterator[Sheet]:
@@ -86,7 +99,7 @@ class Feed:
         Raises `ValueError` at once for another direction, and for an id with a tab or a line feed. When the first sheet is taken, it raises
         `UnknownRoute`, `BrokenProcess`, or `Refused` for a day before 1900. `OutOfMemory` may come after some sheets; those are right.
         """
-        return self._sheets(timetable_request(route, day, direction))
+        return self._sheets(route, timetable_request(route, day, direction))
 
     def close(self) -> None:
         """Ends the program. It may be called again."""
@@ -113,7 +126,7 @@ class Feed:
         except NoZone:
             report = check(self._folder, time_limit=self._time_limit)
             if report.errors:
-                raise HasErrors(1, f"{self._folder} has errors", report) from None
+                raise errors_of(self._folder, f"{self._folder} has errors", report) from None
             raise
 
     def _start(self) -> Process:
@@ -123,12 +136,12 @@ class Feed:
             process.open()
         except Refused as fault:
             if is_about_errors(fault):
-                raise HasErrors(fault.status, fault.message, check(self._folder, time_limit=self._time_limit)) from None
-            raise
+                raise errors_of(self._folder, fault.message, check(self._folder, time_limit=self._time_limit)) from None
+            raise explained(fault, self._folder, zone=self._zone) from None
         return process
 
-    def _ask(self, request: str) -> Tuple[List[str], Optional[Refused]]:
-        """The lines of an answer, and what is raised after them. A process that broke is let go, and the next request starts another."""
+    def _ask(self, request: str, name: str) -> Tuple[List[str], Optional[Refused]]:
+        """The lines of an answer about an id, and what is raised after them. If a process broke, the next request starts another."""
         with self._lock:
             if self._is_closed:
                 raise ValueError("the feed is closed")
@@ -137,14 +150,14 @@ class Feed:
             self._process = process
         if lines and lines[-1].startswith(_REFUSED) and "\t" not in lines[-1]:
             message = lines.pop()[len(_REFUSED):]
-            return lines, refusal(_STATUSES.get(message, 2), message)
+            return lines, refusal(_STATUSES.get(message, 2), message, name)
         return lines, None
 
     def _pages(self, stop: str, span: Tuple[str, str], limit: Optional[int], key: Optional[str]) -> Iterator[Departure]:
         """The departures of a span, each page after the last key of the one before."""
         while True:
             size = _PAGE if limit is None else min(limit, _PAGE)
-            lines, fault = self._ask(board_request(stop, *span, size, key))
+            lines, fault = self._ask(board_request(stop, *span, size, key), stop)
             if len(lines) > size:
                 raise BrokenProcess(f"gtfs was asked for {size} lines, and gave {len(lines)}")
             for line in lines:
@@ -158,8 +171,8 @@ class Feed:
             if len(lines) < size or limit == 0:
                 return
 
-    def _sheets(self, request: str) -> Iterator[Sheet]:
-        lines, fault = self._ask(request)
+    def _sheets(self, route: str, request: str) -> Iterator[Sheet]:
+        lines, fault = self._ask(request, route)
         yield from sheets_of(lines)
         if fault:
             raise fault

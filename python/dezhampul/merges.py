@@ -4,7 +4,8 @@ from dataclasses import dataclass, field
 from datetime import date
 from typing import Dict, List, Mapping, Optional, Tuple
 
-from .faults import BrokenProcess, HasErrors, is_about_errors
+from .faults import BrokenProcess, is_about_errors
+from .folders import errors_of, explained
 from .paths import Path
 from .program import fault_of, run
 from .reports import check
@@ -59,21 +60,21 @@ def merge(
         words.append(f"--cutoff={text_of_day(cutoff)}")
     ended = run([*words, "--", *map(os.fsdecode, (first, second, out))], time_limit)
     if ended.status != 0:
-        raise _fault_of_merge(fault_of(ended.status, ended.told), first, second, time_limit)
+        raise _fault_of_merge(fault_of(ended.status, ended.told), (os.fsdecode(first), os.fsdecode(second)), time_limit)
     try:
         return _merged_of(ended.output.decode().split("\n"))
     except (ValueError, LookupError):
         raise BrokenProcess("gtfs gave a report of a merge that is none") from None
 
 
-def _fault_of_merge(fault: Exception, first: Path, second: Path, time_limit: Optional[float]) -> Exception:
+def _fault_of_merge(fault: Exception, feeds: Tuple[str, str], time_limit: Optional[float]) -> Exception:
     """The fault, with the report of the feed that has errors: of both the program tells the first."""
     if is_about_errors(fault):
-        reports = (check(feed, time_limit=time_limit) for feed in (first, second))
-        for report in reports:
+        for feed in feeds:
+            report = check(feed, time_limit=time_limit)
             if report.errors:
-                return HasErrors(1, str(fault), report)
-    return fault
+                return errors_of(feed, str(fault), report)
+    return explained(fault, *feeds)
 
 
 def _merged_of(lines: List[str]) -> Merged:

@@ -5,6 +5,7 @@ from dataclasses import dataclass, field
 from typing import Mapping
 
 from .faults import DeviceFault
+from .folders import text_of_file
 from .paths import Path
 from .tables import rows_of
 
@@ -66,4 +67,5 @@ def names(feed: Path) -> Names:
         trips = rows_of(feed, "trips.txt", "trip_id", "route_id")
         return Names({row[0]: Stop(*row) for row in stops}, {row[0]: Route(*row) for row in routes}, {trip: route for trip, route in trips})
     except (OSError, ValueError, csv.Error):
-        raise DeviceFault(3, f"stops.txt, routes.txt or trips.txt of {os.fsdecode(feed)} cannot be read") from None
+        folder = os.fsdecode(feed)
+        raise DeviceFault(3, f"stops.txt, routes.txt or trips.txt of {folder} cannot be read", text_of_file(folder)) from None

@@ -3,7 +3,7 @@ import os
 import shutil
 import subprocess
 from dataclasses import dataclass
-from typing import Dict, List, Optional, Tuple
+from typing import Dict, List, Optional
 
 from .faults import BrokenProcess, NoProgram, refusal
 
@@ -92,7 +92,12 @@ def died(status: int, told: bytes) -> str:
     return ": ".join(filter(None, (f"gtfs ended with {how}", reason(told))))
 
 
-def version_of(program: str) -> Tuple[int, str]:
-    """The status of `gtfs --version`, and its line."""
-    ran = subprocess.run([program, "--version"], stdin=subprocess.DEVNULL, stdout=subprocess.PIPE, stderr=subprocess.DEVNULL, timeout=60)
-    return ran.returncode, ran.stdout.decode(errors="replace").strip()
+def version() -> str:
+    """The line of `gtfs --version`. Raises what `run` raises, and `BrokenProcess` with the error line of a program that fails."""
+    ended = run(["--version"], 60)
+    line = ended.output.decode(errors="replace").strip()
+    if ended.status:
+        raise BrokenProcess(died(ended.status, ended.told))
+    if not line:
+        raise BrokenProcess("gtfs told no version")
+    return line

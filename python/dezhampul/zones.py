@@ -3,9 +3,10 @@ import csv
 import os
 import re
 import sys
+from datetime import tzinfo
 from typing import Sequence
 
-from .faults import NoZone
+from .faults import DeviceFault, NoZone
 from .paths import Path
 from .tables import rows_of
 
@@ -37,10 +38,24 @@ def agency_timezone(feed: Path) -> str:
 
 def zone_file(feed: Path) -> str:
     """The path of the zone file for a feed. Raises `NoZone`."""
-    name = agency_timezone(feed)
+    name, folders = agency_timezone(feed), zone_folders()
+    if not folders:
+        raise NoZone(f"Python knows no folder of zone files to look for {name} in: set PYTHONTZPATH, or name a zone file")
     if _NAME.fullmatch(name):
-        for folder in zone_folders():
+        for folder in folders:
             path = os.path.join(folder, name)
             if os.path.isfile(path):
                 return path
-    raise NoZone(f"there is no zone file for {name} in {', '.join(zone_folders()) or 'no folder'}: install tzdata, or name a zone file")
+    raise NoZone(f"there is no zone file for {name} in {', '.join(folders)}: install tzdata, or name a zone file")
+
+
+def zone_of(path: str) -> tzinfo:
+    """The zone of a zone file. Raises `DeviceFault` where it cannot be read, and `NotImplementedError` before Python 3.9."""
+    if sys.version_info < (3, 9):
+        raise NotImplementedError("Python 3.8 has no zoneinfo: for the time at the stops use Python 3.9 or later")
+    import zoneinfo
+    try:
+        with open(path, "rb") as file:
+            return zoneinfo.ZoneInfo.from_file(file, key=path)
+    except (OSError, ValueError):
+        raise DeviceFault(3, f"{path} cannot be read") from None

@@ -1,6 +1,9 @@
 """Boards, and the next departures."""
 import os
+import shutil
+import sys
 import tracemalloc
+import unittest
 from datetime import date, datetime, timedelta, timezone
 from itertools import islice
 from unittest import mock
@@ -9,6 +12,7 @@ import dezhampul
 from made import BEGIN, END, FEEDS, UTC, ZONE, Case, answer, at, compact, example, make_feed, make_long_feed, put, stops_of, text_of_board
 
 DAY, NEXT_DAY = date(2024, 4, 1), date(2024, 4, 2)
+HAS_ZONES = unittest.skipIf(sys.version_info < (3, 9), "Python 3.8 has no zoneinfo")
 ODD = "a/b \"c\" 'd'/1/2/20240401 =="
 
 
@@ -107,6 +111,38 @@ class Boards(Case):
             self.assertEqual(text_of_board(feed.next("HAR")), text)
         self.assertEqual(list(dezhampul.Feed(example("harbour"), zone=ZONE).next("HAR", count=10)), [], "the feed ended in 2024")
 
+    @HAS_ZONES
+    def test_now(self):
+        """the time at the stops has the offsets that the program's times have, also where clocks change"""
+        with dezhampul.Feed(example("harbour"), zone=ZONE) as feed, mock.patch("dezhampul.feed.datetime", wraps=datetime) as clock:
+            for now, text in ((1711846799.5, "2024-03-31T01:59:59.500000+01:00"), (1711846800, "2024-03-31T03:00:00+02:00")):
+                clock.now.return_value = at(now)
+                self.assertEqual(feed.now().isoformat(), text)
+            times = [departure.time for departure in feed.board("HAR", BEGIN, END)]
+            self.assertEqual(len({time.utcoffset() for time in times}), 2)
+            self.assertEqual([time.astimezone(feed.now().tzinfo).isoformat() for time in times], [time.isoformat() for time in times])
+        with dezhampul.Feed(example("f1"), zone=UTC) as feed:
+            self.assertLess(abs(datetime.now(timezone.utc) - feed.now()), timedelta(seconds=30))
+
+    @HAS_ZONES
+    def test_lost_zone(self):
+        """a zone file that is not there any more is told, and one that was read is read no more"""
+        shutil.copy(ZONE, self.path("zone"))
+        with dezhampul.Feed(example("harbour"), zone=self.path("zone")) as feed:
+            os.remove(self.path("zone"))
+            with self.refused(dezhampul.DeviceFault, 3, f"{self.path('zone')} cannot be read"):
+                feed.now()
+            shutil.copy(ZONE, self.path("zone"))
+            first = feed.now()
+            os.remove(self.path("zone"))
+            self.assertLessEqual(first, feed.now())
+
+    def test_no_zones(self):
+        """without zoneinfo there is no time at the stops"""
+        with dezhampul.Feed(example("harbour"), zone=ZONE) as feed, mock.patch("dezhampul.zones.sys", version_info=(3, 8)):
+            with self.assertRaisesRegex(NotImplementedError, "Python 3.9 or later"):
+                feed.now()
+
     def test_odd_ids(self):
         """ids have spaces, slashes and quotes at any place"""
         stop, quoted = f" {ODD} ".strip(), ODD.replace('"', '""')
@@ -127,11 +163,13 @@ class Boards(Case):
                 self.assertEqual(list(feed.board(stop, DAY, NEXT_DAY, after=each.key)), found[place:])
 
     def test_refusals(self):
-        """what the program refuses is raised with its words and the status of its command"""
+        """what the program refuses is raised with its words and the status of its command, and a stop with its id"""
         with dezhampul.Feed(example("f1"), zone=UTC) as feed:
             for stop in ("S9", "", " S1", "s1", "S1\r", "\ufeffS1"):
-                with self.refused(dezhampul.UnknownStop, 1, "unknown stop"):
+                with self.refused(dezhampul.UnknownStop, 1, f"the feed has no stop {stop!r}", "unknown stop"):
                     next(feed.board(stop, DAY, NEXT_DAY))
+            with self.refused(dezhampul.UnknownStop, 1, f"the feed has no stop '{'S' * 200}'", "unknown stop"):
+                list(feed.next("S" * 10_000))
             with self.refused(dezhampul.Refused, 2, "until lies before from"):
                 list(feed.board("S1", NEXT_DAY, DAY))
             for begin, key in ((date(1899, 12, 31), None), (date(9999, 1, 1), None), (DAY, "@0"), (DAY, "x")):

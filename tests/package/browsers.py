@@ -1,5 +1,6 @@
 """The display in a browser: what the script is called with, and what a browser shows, beside the program's text."""
 import contextlib
+import json
 import os
 import re
 import shutil
@@ -12,7 +13,7 @@ from glob import glob
 from html.parser import HTMLParser
 from urllib.parse import urlencode
 
-from made import PACKAGE, UTC, ZONE, Case, answer, at, example, make_feed
+from made import BROKEN, PACKAGE, UTC, ZONE, Case, answer, at, example, make_feed
 from program import ROOT, read
 from served import NOW, SCRIPT, Served, board, server
 
@@ -65,7 +66,7 @@ class Scripts(Case):
 
     def test_ends(self):
         """it ends without a word when it is interrupted; that a feed has errors it says at its start"""
-        errors = f"server: {example('broken')} has errors\n".encode()
+        errors = f"server: {BROKEN}\n".encode()
         for feed, told in ((example("harbour"), b""), (example("broken"), errors)):
             with running(feed, "--zone", ZONE) as (process, port):
                 process.send_signal(signal.SIGINT)
@@ -78,8 +79,8 @@ class Scripts(Case):
             port = str(taken.getsockname()[1])
             for words, status, line in (
                 ([self.path("none")], 1, f"server: {self.path('none')} is not there\n"),
-                ([example("f1"), "--zone", self.path("none")], 1, f"server: {self.path('none')} is not there\n"),
-                ([example("f1"), "--zone", UTC, "--port", port], 1, "server: [Errno 98] Address already in use\n"),
+                ([example("f1"), "--zone", "Europe/Rome"], 1, "a zone file, such as /usr/share/zoneinfo/Europe/Rome\n"),
+                ([example("f1"), "--zone", UTC, "--port", port], 1, f"server: port {port} is in use: try --port {int(port) + 1}\n"),
                 ([example("f1"), "--zone", UTC, "--now", "2024-04-02T06:50:00"], 2, ".py: error: --now has no offset from UTC\n"),
                 ([example("f1"), "--zone", UTC, "--now", "now"], 2, "invalid fromisoformat value: 'now'\n"),
             ):
@@ -226,13 +227,19 @@ class Browsers(Served):
         self.assertEqual([[cell.replace(",", "") for cell in row] for row in shown.rows[1:]], rows_of(text, now))
         self.assertEqual({row[0][:6] for row in shown.rows[1:] if len(row) == 5}, {"about "})
 
+    def test_ended(self):
+        """where nothing departs, it is said that the feed may have ended"""
+        self.serve(example("harbour"), now=None)
+        shown, = self.browse({"stop": "HAR"})
+        self.assertEqual(shown.texts["words"], "Nothing departs here within a week. The feed may have ended.")
+
     def test_errors(self):
         """a feed with errors is told in words"""
         self.serve(example("broken"))
         shown, = self.browse({"stop": "S1"})
         self.assertEqual(shown.texts["words"], "The feed has errors. Nothing can be shown until they are mended.")
         self.assertEqual(shown.texts["lines"].count("\n"), server.ERRORS - 1)
-        self.assertIn("stops.txt, row 4: stop_lat: value unreadable", shown.texts["lines"])
+        self.assertIn("stops.txt, row 4, stop_lat: value unreadable", shown.texts["lines"])
 
 
 class Pages(Case):
@@ -245,6 +252,23 @@ class Pages(Case):
         self.assertEqual(text.count("<th "), text.count('<th scope="col"'))
         self.assertEqual(script.count('element("th", {'), len(re.findall(r'element\("th", \{ scope: "(?:row|col|rowgroup)"', script)))
         self.assertNotRegex(script, "innerHTML|outerHTML|insertAdjacentHTML|document.write|eval")
+
+    def test_search(self):
+        """a search finds stops by their names, by parts of these, and by their ids"""
+        node = shutil.which("node")
+        if not node:
+            self.skipTest("there is no node")
+        script = read(os.path.join(os.path.dirname(SCRIPT), "page.js")).decode()
+        function = re.search(r"^function fitting\(.*?^}$", script, flags=re.M | re.S)[0]
+        labels = [("Old Harbour", "HAR"), ("Old Harbour, platform 1", "HAR-1"), ("Lake", "a1"), ("Lakeside", "A1"), ("a1b", "Har"), ("b2", "x")]
+        wanted = {
+            " old harbour": ["HAR"], "HARBOUR": ["HAR", "HAR-1"], "platform": ["HAR-1"], "HAR": ["HAR"], " Har ": ["Har"], "har-1": ["HAR-1"],
+            "a1": ["a1"], "A1": ["A1"], "B2": ["x"], "lake": ["a1"], "ake": ["a1", "A1"], "X": ["x"], "1b": ["Har"], "none": [], "-1": [],
+        }
+        call = f"{function} const labels = new Map({json.dumps(labels)});"
+        call += f"console.log(JSON.stringify({json.dumps(list(wanted))}.map((text) => fitting(labels, text))));"
+        ran = subprocess.run([node, "--eval", call], timeout=60, **PIPES)
+        self.assertEqual(json.loads(ran.stdout or "0"), list(wanted.values()), ran.stderr)
 
     def test_pictures(self):
         """the pictures that the pages of the documentation show are small"""

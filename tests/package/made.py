@@ -1,5 +1,6 @@
 """What the tests of the Python package share: the program, feeds, stand-ins, and the texts of the program for what it was asked."""
 import contextlib
+import importlib.util
 import os
 import shutil
 import subprocess
@@ -20,19 +21,31 @@ FEEDS = {"harbour": ZONE, "ferry": ZONE, "tram": ZONE, "f1": UTC}
 BEGIN, END = date(2024, 3, 1), date(2024, 7, 31)
 
 
+def example(name):
+    return os.path.join(ROOT, "examples", name)
+
+
+# What is said where a feed with errors is to be opened or merged.
+BROKEN = f"{example('broken')} has 6 errors, the first: stops.txt, row 4, stop_lat: value unreadable"
+
+
 class Tried:
     """The program that is tried."""
 
     path = PROGRAM
 
 
-def example(name):
-    return os.path.join(ROOT, "examples", name)
-
-
 def at(seconds):
     """An instant as an aware datetime."""
     return datetime.fromtimestamp(seconds, timezone.utc)
+
+
+def load(path):
+    """A script as a module."""
+    spec = importlib.util.spec_from_file_location(os.path.basename(path)[: -len(".py")], path)
+    module = importlib.util.module_from_spec(spec)
+    spec.loader.exec_module(module)
+    return module
 
 
 def gtfs(*words):
@@ -152,8 +165,9 @@ class Case(unittest.TestCase):
         self.use(self.path("stand-in"))
 
     @contextlib.contextmanager
-    def refused(self, kind, status, message):
-        """Wants a refusal of exactly this kind, with this status and message."""
+    def refused(self, kind, status, text, message=None):
+        """Wants a refusal of exactly this kind, with this status, text and message, which is the same unless it is given."""
         with self.assertRaises(kind) as raised:
             yield raised
-        self.assertEqual((type(raised.exception), raised.exception.status, str(raised.exception)), (kind, status, message))
+        fault = raised.exception
+        self.assertEqual((type(fault), fault.status, str(fault), fault.message), (kind, status, text, message or text))

@@ -48,3 +48,6 @@ class Names(Case):
             spoil(os.path.join(folder, "trips.txt"))
             with self.refused(dezhampul.DeviceFault, 3, f"stops.txt, routes.txt or trips.txt of {folder} cannot be read"):
                 dezhampul.names(folder)
+        path, text = os.path.join(example("f1"), "stops.txt"), "stops.txt, routes.txt or trips.txt of {} cannot be read"
+        with self.refused(dezhampul.DeviceFault, 3, f"{path} is a file, not a folder: unzip it first", text.format(path)):
+            dezhampul.names(path)

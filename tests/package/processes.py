@@ -13,7 +13,7 @@ from unittest import mock
 
 import dezhampul
 from dezhampul.process import Process
-from made import PACKAGE, UTC, ZONE, Case, answer, example, make_feed, make_long_feed, put, text_of_board
+from made import BROKEN, PACKAGE, UTC, ZONE, Case, answer, example, make_feed, make_long_feed, put, text_of_board
 
 DAY, NEXT_DAY = date(2024, 4, 1), date(2024, 4, 2)
 LINE = "@1711958400/T1/28800/1/20240401\t2024-04-01 08:00:00+00:00\tS1\t10\t\ts\n"
@@ -125,7 +125,13 @@ class Broken(Case):
 
     def test_reports_of_nonsense(self):
         """reports that are none, and statuses that do not fit them"""
-        for text in ("", "errors 0 warnings 0", "E07\nerrors 1 warnings 0\n", "errors x warnings 0\n", "errors 1 warnings 0\n", "\xff\n"):
+        problem, advice = "W01 stops.txt:2 - short row", "A03 stops.txt\tS3\tno trip stops here"
+        for text in (
+            "", "errors 0 warnings 0", "E07\nerrors 1 warnings 0\n", "errors x warnings 0\n", "errors 1 warnings 0\n", "\xff\n",
+            f"{problem}\t\nerrors 0 warnings 1\n", f'{problem}\t"\nerrors 0 warnings 1\n', f'{problem}\t""x\nerrors 0 warnings 1\n',
+            f"{advice}\nerrors 0 warnings 0\n", f"{advice}\nerrors 0 warnings 0 advice 2\n", "errors 0 warnings 0 advice 1\n",
+            "A03 stops.txt\tS3\nerrors 0 warnings 0 advice 1\n", f"{advice}\t1\nerrors 0 warnings 0 advice 1\n",
+        ):
             self.stand_in(f"import sys\nsys.stdout.buffer.write({text!r}.encode('latin-1'))", begin="")
             self.want_broken(lambda: dezhampul.check(example("f1")))
             self.want_broken(lambda: dezhampul.merge(example("f1"), example("f1"), self.path("out")))
@@ -224,11 +230,12 @@ class Opened(Case):
     def test_errors(self):
         """a feed with errors is not opened, and its report is there, also where it names no zone"""
         report = dezhampul.check(example("broken"))
-        with self.refused(dezhampul.HasErrors, 1, f"{example('broken')} has errors") as raised:
+        with self.refused(dezhampul.HasErrors, 1, BROKEN, f"{example('broken')} has errors") as raised:
             dezhampul.Feed(example("broken"), zone=ZONE)
         self.assertEqual(raised.exception.report, report)
         folder = make_feed(self.path("none"), agency="agency_name,agency_url\nMetro,http://m.example\n")
-        with self.refused(dezhampul.HasErrors, 1, f"{folder} has errors") as raised:
+        text = f"{folder} has 1 error: agency.txt, row 1, agency_timezone: column missing"
+        with self.refused(dezhampul.HasErrors, 1, text, f"{folder} has errors") as raised:
             dezhampul.Feed(folder)
         self.assertEqual(raised.exception.report, dezhampul.check(folder))
 
@@ -237,8 +244,6 @@ class Opened(Case):
         for how in ({}, {"zone": ZONE}):
             with self.refused(dezhampul.DeviceFault, 3, f"{self.path('none')} is not there"):
                 dezhampul.Feed(self.path("none"), **how)
-        with self.refused(dezhampul.DeviceFault, 3, f"{self.path('none')} is not there"):
-            dezhampul.Feed(example("f1"), zone=self.path("none"))
         folder = make_feed(self.path("pipe"))
         os.remove(os.path.join(folder, "agency.txt"))
         os.mkfifo(os.path.join(folder, "agency.txt"))
@@ -247,6 +252,26 @@ class Opened(Case):
         stops = os.path.join(example("f1"), "stops.txt")
         with self.refused(dezhampul.DeviceFault, 3, f"{stops} is no zone file"):
             dezhampul.Feed(example("f1"), zone=stops)
+        for how in ({}, {"zone": ZONE}):
+            with self.refused(dezhampul.DeviceFault, 3, f"{stops} is a file, not a folder: unzip it first", f"{stops} cannot be read"):
+                dezhampul.Feed(stops, **how)
+        for zone, how in (("Europe/Rome", "is not there"), (self.room, "cannot be read")):
+            text = f"{zone} is no file: give the path of a zone file, such as /usr/share/zoneinfo/Europe/Rome"
+            with self.refused(dezhampul.DeviceFault, 3, text, f"{zone} {how}"):
+                dezhampul.Feed(example("f1"), zone=zone)
+
+    def test_no_feed(self):
+        """a folder without any file of a feed, which may be in one of the folders below"""
+        folder = self.path("zip")
+        os.makedirs(os.path.join(folder, "empty"))
+        put(os.path.join(folder, "readme.txt"), "")
+        for name, text in ((None, ""), ("one", "; is it in {}/one?"), ("two", "")):
+            if name:
+                make_feed(os.path.join(folder, name))
+            for ask in (lambda: dezhampul.Feed(folder), lambda: dezhampul.Feed(folder, zone=UTC),
+                        lambda: dezhampul.merge(example("f1"), folder, self.path("out"))):
+                with self.refused(dezhampul.HasErrors, 1, f"no file of a feed is in {folder}{text.format(folder)}", f"{folder} has errors"):
+                    ask()
 
     def test_changed(self):
         """a program that starts again reads the folder anew, which may have errors by then"""
@@ -269,6 +294,9 @@ class Opened(Case):
                 self.assertEqual(len(list(feed.board("HAR", DAY, NEXT_DAY))), 3)
             with self.assertRaisesRegex(dezhampul.NoZone, "no zone file for UTC in .*zones: install tzdata, or name a zone file"):
                 dezhampul.Feed(example("f1"))
+            with mock.patch("dezhampul.zones.zone_folders", return_value=[]):
+                with self.assertRaisesRegex(dezhampul.NoZone, "^Python knows no folder of zone files to look for UTC in: set PYTHONTZPATH"):
+                    dezhampul.Feed(example("f1"))
             for name in (
                 "../zone", "./Europe/Copenhagen", f"{self.path('zone')}", "Europe/../Europe/Copenhagen", "Europe", "Europe//Copenhagen",
             ):
@@ -338,9 +366,9 @@ class Opened(Case):
         for name in dezhampul.__all__:
             if name != "__version__":
                 self.assertTrue(getattr(dezhampul, name).__doc__, name)
-        for name in ("board", "next", "timetable", "close", "zone"):
+        for name in ("board", "next", "timetable", "close", "zone", "now"):
             self.assertTrue(getattr(dezhampul.Feed, name).__doc__, name)
         with self.assertRaises(AttributeError):
             dezhampul.check(example("f1")).errors = 1
-        again = pickle.loads(pickle.dumps(dezhampul.UnknownStop(1, "unknown stop")))
-        self.assertEqual((type(again), again.status, again.message), (dezhampul.UnknownStop, 1, "unknown stop"))
+        again = pickle.loads(pickle.dumps(dezhampul.UnknownStop(1, "unknown stop", "no stop")))
+        self.assertEqual((type(again), again.status, again.message, str(again)), (dezhampul.UnknownStop, 1, "unknown stop", "no stop"))

@@ -1,7 +1,6 @@
 """What the tests of the display in a browser share: its script as a module, a server of it, and the program's text of its boards."""
 import contextlib
 import http.client
-import importlib.util
 import io
 import json
 import os
@@ -10,7 +9,7 @@ from datetime import datetime, timedelta, timezone
 from http.server import ThreadingHTTPServer
 from urllib.parse import urlencode
 
-from made import ZONE, Case, answer
+from made import ZONE, Case, answer, load
 from program import ROOT
 
 SCRIPT = os.path.join(ROOT, "examples", "web", "server.py")
@@ -20,15 +19,7 @@ NOW = datetime(2024, 4, 2, 6, 50, tzinfo=timezone(timedelta(hours=2)))
 WEEK = timedelta(days=7)
 
 
-def load():
-    """The script as a module."""
-    spec = importlib.util.spec_from_file_location("server", SCRIPT)
-    module = importlib.util.module_from_spec(spec)
-    spec.loader.exec_module(module)
-    return module
-
-
-server = load()
+server = load(SCRIPT)
 
 
 def board(feed, zone, stop, now, *words):

@@ -67,7 +67,8 @@ class Sheets(Case):
         """an unknown route, days and directions that are none"""
         with dezhampul.Feed(example("f1"), zone=UTC) as feed:
             for route in ("R9", "", "S1"):
-                with self.refused(dezhampul.UnknownRoute, 1, "unknown route"):
+                text = f"the feed has no route {route!r}; routes are asked for by route_id"
+                with self.refused(dezhampul.UnknownRoute, 1, text, "unknown route"):
                     list(feed.timetable(route, date(2024, 4, 1)))
             with self.refused(dezhampul.Refused, 2, "bad request"):
                 list(feed.timetable("R1", date(1899, 12, 31)))

@@ -191,13 +191,19 @@ class Faults(Served):
             told = self.told(path, 503)
             self.assertEqual(told["error"], "The feed has errors. Nothing can be shown until they are mended.")
             error = next(problem for problem in report.problems if problem.code.startswith("E"))
-            self.assertEqual(told["problems"][0], f"{error.file}, row {error.row}: {error.column}: {error.text}")
+            self.assertEqual(told["problems"][0], f"{error.file}, row {error.row}, {error.column}: {error.text}")
             self.assertLessEqual(len(told["problems"]), server.ERRORS)
         self.assertEqual(self.ask("/")[0], 200)
         put(os.path.join(folder, "stops.txt"), stops)
         self.told("/board", 503, stop="S1")
         source.again = 0
         self.assertEqual(len(self.told("/board", stop="S1")["departures"]), 1)
+
+    def test_no_feed(self):
+        """a folder without the files of a feed is told with those that are missing"""
+        self.serve(self.room, UTC)
+        self.assertEqual(self.told("/names", 503)["problems"][0], "agency.txt: file missing")
+        self.assertEqual(self.errors.getvalue(), f"server: no file of a feed is in {self.room}\n")
 
     def test_once_in_a_while(self):
         """a feed that cannot be opened is not opened again for each request"""

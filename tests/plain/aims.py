@@ -5,14 +5,15 @@ from sites import sites
 from values import date_text
 
 UNREADABLE = {
-    "choice": ["x", "-1", "1.0"], "count": ["x", "-1"], "positive": ["1 0", "+1"], "time": ["8:5:00", "24:60:00"],
-    "date": ["2024-01-01", "1"], "colour": ["#ffffff", "FFFFF"], "latitude": ["52,5", "1e1"], "longitude": ["-", "1.2.3"],
+    "choice": ["x", "-1", '"1"'], "count": ["x", "-1", '1"0'], "positive": ["1 0", "+1"], "time": ["8:5:00", "24:60:00", '8"'],
+    "date": ["2024-01-01", "1", "x" * 61], "colour": ["#ffffff", "FFFFF", "x" * 60], "latitude": ["52,5", "1e1"],
+    "longitude": ["-", "1.2.3"],
 }
 OUT_OF_RANGE = {
-    "choice": ["99", "2147483648"], "count": ["2147483648"], "positive": ["0", "99999999999999999999"], "date": ["20240230", "18991231"],
-    "latitude": ["90.000000001", "-91"], "longitude": ["180.1", "-999"],
+    "choice": ["99", "2147483648"], "count": ["2147483648", "9" * 61], "positive": ["0", "99999999999999999999"],
+    "date": ["20240230", "18991231"], "latitude": ["90.000000001", "-91"], "longitude": ["180.1", "-999"],
 }
-CONTROLLED = ["a\tb", "a\nb", "\x01b", "a\x7f1"]
+CONTROLLED = ["a\tb", "a\nb", "\x01b", "a\x7f1", "a\t" + "x" * 58, "a\n" + "é" * 59]
 
 
 def row_of(random, feed, name):
@@ -114,11 +115,28 @@ def value_missing(random, feed, name, column):
     set_value(random, feed, name, {column: "", **others[alike.get(column, column)]})
 
 
+def period_empty(random, feed, name, _):
+    set_value(random, feed, name, {"start_time": "06:00:00", "end_time": random.choice(["06:00:00", "05:59:59"])})
+
+
+def periods_overlap(random, feed, name, _):
+    row = set_value(random, feed, name, {"start_time": "06:00:00", "end_time": "07:00:00"})
+    feed.sheets[name].append({**row, "start_time": "06:59:59"})
+
+
+def zones_differ(random, feed, name, _):
+    """Another agency, with an id as all then have, in another zone."""
+    rows = feed.sheets[name]
+    show(feed, name, "agency_id")
+    rows.append({**row_of(random, feed, name), "agency_id": "Z7", "agency_timezone": "Europe/Paris"})
+
+
 CHANGES = {
     "E01": without_file, "E02": not_text, "E03": without_column, "E04": column_twice, "E05": empty_file, "W04": column_not_kept,
     "E06": value_of(lambda kind: ["", " "]), "E07": value_of(UNREADABLE.get), "E08": value_of(OUT_OF_RANGE.get),
     "E20": value_of(lambda kind: CONTROLLED), "W05": value_of(lambda kind: CONTROLLED), "E09": key_twice,
     "E10": value_of(lambda kind: ["nobody", "t1"]), "E12": value_missing, "W01": length_of(-1), "W02": length_of(1),
+    "E13": zones_differ, "E18": period_empty, "E19": periods_overlap,
 }
 AIMS = sorted(site for site in sites() if site[0] in CHANGES)
 
@@ -126,5 +144,6 @@ AIMS = sorted(site for site in sites() if site[0] in CHANGES)
 def aim(random, feed, number, times):
     """Aims at so many sites, of which each number has others, far from each other."""
     for at in range(number * times, (number + 1) * times):
-        code, name, column = AIMS[at * 97 % len(AIMS)]
+        # (each time round they come together with others)
+        code, name, column = AIMS[(at * 97 + at // len(AIMS)) % len(AIMS)]
         CHANGES[code](random, feed, name, column)

@@ -1,46 +1,22 @@
 """Cases: a folder with feeds and zone files, and words. Each is made from its name alone."""
 import copy
 import datetime
-import os
 from dataclasses import replace
 from random import Random
 
-from aims import aim
 from asked_values import moment_of
 from boards import Key, departures
+from case_parts import folder_word, put, put_feed, put_zones, service_day
+from check_maker import given_check
 from commands import Ended, feed, zone_of
-from feed_maker import BASES, file_bytes, make_feed
+from feed_maker import file_bytes
 from filling import interpolated
 from hostile import change_case
-from oddities import DIFFERENCES, MOVES, ODDITIES, change
+from oddities import DIFFERENCES, MOVES, change
 from serving import LONGEST
-from values import FIRST_SERVICE_DAY, LAST_SERVICE_DAY, Form, Range, date_text, read_date
+from values import FIRST_SERVICE_DAY, LAST_SERVICE_DAY, Form, Range, date_text
 from words import COMMANDS
-from zone_maker import make_zone, no_zone
 from zones import DAY, Odd, midnight
-
-
-def put(path, files):
-    os.makedirs(path, exist_ok=True)
-    for name, held in files.items():
-        with open(os.path.join(path, name), "wb") as file:
-            file.write(held)
-
-
-def put_feed(random, folder, oddities, number=None):
-    """A feed in a folder, with so many odd changes, and with a number with those that aim at sites of problems."""
-    made = make_feed(random, random.choice(BASES))
-    change(random, made, ODDITIES, oddities)
-    if number is not None:
-        aim(random, made, number, 5)
-    put(folder, file_bytes(random, made))
-    if random.random() < 0.03:
-        # (a folder of the name of a kept file and a name that is not UTF-8 cannot be read)
-        name = random.choice([b"notes.d", b"levels.txt", b"transfers.txt", b"\xff"])
-        if name not in os.listdir(os.fsencode(folder)):
-            os.mkdir(os.path.join(os.fsencode(folder), name))
-    return made
-
 
 # ---- values of options
 
@@ -52,7 +28,6 @@ ODD_KEYS = [
     "", "@", "@0", "x", "@0/T1/0/1", "@0//0/1/20240401", "@0/T1/00/1/20240401", "@0/T1/0/1/20240230",
     "@-0/T1/0/1/20240401", "@0/T1/3600000/1/20240401", "@0/T1/0/2147483648/20240401", "@5/a/b/c/0/1/99991231",
 ]
-ODD_ZONES = ["zones/bad", "zones/bad", "zones/bad", "zones/bad", "none", "zones", "zones/", "z/z", "", "no/z", "z\t"]
 
 ODD_REQUESTS = ["latin", "latin", "none", "f", "f/", "z/", "", "requests/", "requests/r", "no/r", "r\t"]
 
@@ -215,25 +190,6 @@ def make_input(random, made, zone):
 # ---- the texts of each command
 
 
-def folder_word(random):
-    """The folder of the feed, or at times something else."""
-    return "f" if random.random() < 0.94 else random.choice(["none", "", "z", "z/f", "f/", "./f", "a\tb", "none/f"])
-
-
-def given_check(random, number):
-    # (a fourth of them is left as other commands have them)
-    put_feed(random, "f", random.choice([0, 1, 1, 2, 3, 5]), None if number % 4 == 0 else number - number // 4)
-    put(".", {"z": b""})
-    return {"DIR": folder_word(random)}
-
-
-def put_zones(random, made):
-    """The files of zones, and the path of one, or at times of something else."""
-    put("zones", {"z": make_zone(random, midnight(made.base)), "bad": no_zone(random)})
-    put(".", {"z": b"no folder"})
-    return "zones/z" if random.random() < 0.91 else random.choice(ODD_ZONES)
-
-
 def stop_in(random, made):
     """A stop that is called at, or at times another one."""
     called = made.ids("stop_times.txt", "stop_id") + made.ids("stops.txt", "parent_station")
@@ -322,30 +278,8 @@ def given_merge(random):
         odd = ["2147483648", "x", "", "+1", "-1", "1.0", " 1"]
         given["near"] = random.choice(odd if random.random() < 0.06 else ["0", "1", "1", "5", "0010", "2147483647"])
     if random.random() < 0.5:
-        given["cutoff"] = cutoff(random, made)
+        given["cutoff"] = service_day(random, made, [-1, 0, 0, 1, 1, 2])
     return given
-
-
-ODD_CUTOFFS = [
-    "99990101", "99991231", "18991231", "20240230", "2024-04-01", "202404011", "", "@0", "@1711929600", " 20240401", "+20240401",
-]
-
-
-def cutoff(random, made):
-    """A service day about the first and the last dates of a feed, or another one, or something else."""
-    form = random.random()
-    if form < 0.06:
-        return random.choice(ODD_CUTOFFS)
-    if form < 0.14:
-        return random.choice(["19000101", "99981231", "20240401"])
-    named = [date for column in ("start_date", "end_date") for date in made.ids("calendar.txt", column)]
-    named += made.ids("calendar_dates.txt", "date")
-    try:
-        date = read_date(random.choice([*named, date_text(made.base)]))
-    except (Form, Range):
-        date = made.base
-    date = min(date, LAST_SERVICE_DAY) + datetime.timedelta(random.choice([-1, 0, 0, 1, 1, 2]))
-    return date_text(min(max(date, FIRST_SERVICE_DAY), LAST_SERVICE_DAY))
 
 
 GIVEN = {"board": given_board, "boards": given_boards, "serve": given_serve, "timetable": given_timetable, "merge": given_merge}
@@ -379,7 +313,8 @@ def odd_words(random, command, given):
     refused = random.choice([
         [], ["help"], ["Check", "f"], [command, "--version"], [*words, "-V"], [*words, "--foo"], [*words, "more"],
         [*words, "--foo", "--help"], [*words, "--zone"], [*words, "--interpolate"], [*words, "--interpolate=true"],
-        [*words, "--near"], [*words, "--cutoff"], [*words, "--requests"], ["--foo"], ["-x", *words], [*words, "--"],
+        [*words, "--near"], [*words, "--cutoff"], [*words, "--requests"], [*words, "--day"], [*words, "--advise=1"],
+        [*words, "--values", "--summary", "--values"], ["--foo"], ["-x", *words], [*words, "--"],
         [*words, "--", "--help"], ["check", "--", "-d"], less, less,
     ])
     return random.choice([not_utf8, asking, version, refused, refused, refused])

@@ -7,10 +7,12 @@ import boards
 import merging
 import serving
 import timetables
+from advice import advise
 from asked_values import direction_of, key_of, moment_of, service_day_of
 from content import content_of
 from filling import interpolated
-from problems import passes, problems, report
+from problems import errors_in, passes, problems
+from reports import report
 from requested import Unanswered, board_asked, instant_in, numbered_lines, text_of
 from tables import NotThere, Unreadable, read_tables
 from values import Form, Range, plain, read_count, read_date
@@ -132,8 +134,14 @@ def can_be_written(folder):
 
 
 def check(given):
-    out, has_errors = report(problems(dataset(given["DIR"])))
-    return Outcome(1 if has_errors else 0, out)
+    if "day" in given and "advise" not in given:
+        raise Ended(2, "--day needs --advise")
+    day = value(given, "day", service_day_of)
+    tables = dataset(given["DIR"])
+    found = problems(tables)
+    has_errors = errors_in(found) > 0
+    advised = advise(content_of(tables), day) if "advise" in given and not has_errors else None
+    return Outcome(1 if has_errors else 0, report(tables, found, advised, "values" in given, "summary" in given))
 
 
 def board(given):

@@ -1,4 +1,4 @@
-"""What is wrong with a dataset: every problem, and the report that tells them.
+"""What is wrong with a dataset: every problem.
 
 A rule is a function of a dataset's tables that yields problems: a file, a row, a code and a column, which is empty
 where none is named. It applies to a row only where the values that it uses are readable, or empty where it asks that.
@@ -7,7 +7,7 @@ import datetime
 from collections import Counter, defaultdict
 
 from columns import FILES, KEYS, NEEDED, REFERENCES, WEEKDAYS
-from values import CONTROL, FIRST_SERVICE_DAY, LAST_SERVICE_DAY, Form, Range, plain
+from values import CONTROL, FIRST_SERVICE_DAY, LAST_SERVICE_DAY, Form, Range
 
 TEXTS = {
     "E01": "file missing", "E02": "not UTF-8", "E03": "column missing", "E04": "column twice", "E05": "file empty",
@@ -289,13 +289,10 @@ def problems(tables):
     return sorted(found, key=lambda problem: (ranks.get(problem[0], (len(FILES), problem[0])), *problem[1:]))
 
 
+def errors_in(found):
+    """How many problems are errors."""
+    return sum(code.startswith("E") for _, _, code, _ in found)
+
+
 def passes(tables):
-    return not any(code.startswith("E") for _, _, code, _ in problems(tables))
-
-
-def report(found):
-    """The text of a report, and whether it has an error."""
-    lines = [f"{code} {plain(name)}:{row} {plain(column) or '-'} {TEXTS[code]}\n" for name, row, code, column in found]
-    errors = sum(code.startswith("E") for _, _, code, _ in found)
-    lines.append(f"errors {errors} warnings {len(found) - errors}\n")
-    return "".join(lines), errors > 0
+    return not errors_in(problems(tables))

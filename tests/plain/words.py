@@ -2,7 +2,7 @@
 
 # Of each command the words by position, the options that it needs, those that it may have, and its flags, which have no text.
 COMMANDS = {
-    "check": (["DIR"], [], [], []),
+    "check": (["DIR"], [], ["day"], ["values", "summary", "advise"]),
     "board": (["DIR"], ["zone", "stop", "from", "until"], ["limit", "after"], ["interpolate"]),
     "boards": (["DIR"], ["zone", "requests"], [], ["interpolate"]),
     "serve": (["DIR"], ["zone"], [], ["interpolate"]),

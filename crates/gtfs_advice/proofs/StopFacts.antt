@@ -135,8 +135,8 @@ module _ (p : Parts) (sound : IsSoundParts p) where
       let c = content_of_parts p in
       let id : text_of_number (stop_ids p) n.0 ≡ parent.stop_id = get_or_from_slice_get (stop_ids p) n.0 parent.stop_id _ (mapped_at (λ x. x.stop_id) p.stops n.0 parent at) in
       let found = found_id (λ x. x.stop_id) c.stops n.0 (stop_of p parent) sound.content.in_order.stops (mapped_at (stop_of p) p.stops n.0 parent at) in
-      sym (ap (λ o. if_there (option_and_then (advice.stop_of c) (option_map (λ m. text_of_number (stop_ids p) m.0) o)) (is_far (stop_of p s))) has
-      ∙ ap (λ t. if_there (advice.stop_of c t) (is_far (stop_of p s))) id ∙ ap (λ o. if_there o (is_far (stop_of p s))) found)
+      sym (ap (λ o. if_there (option_and_then (advice.stop_with_id c) (option_map (λ m. text_of_number (stop_ids p) m.0) o)) (is_far (stop_of p s))) has
+      ∙ ap (λ t. if_there (advice.stop_with_id c t) (is_far (stop_of p s))) id ∙ ap (λ o. if_there o (is_far (stop_of p s))) found)
 
   -- ---- the advice on a stop
 

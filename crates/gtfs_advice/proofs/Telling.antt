@@ -10,7 +10,7 @@ use Rattle.gtfs_rows.specs.declared.parts.Parts.{Parts}
 use Rattle.gtfs_advice.specs.declared.advice.Advice.{Advice}
 use Rattle.gtfs_advice.specs.declared.advice.Subject.{Subject}
 use Rattle.gtfs_advice.specs.declared.code.Code.{Code}
-use Rattle.gtfs_advice.specs.Advice.{About, IsWithin, Rule, Tells, about_of, advice_of, advice_on, answers_of, codes_of, row, said, told_about}
+use Rattle.gtfs_advice.specs.Advice.{About, IsWithin, AdviceRule, Tells, about_of, advice_of, advice_on, answers_of, codes_of, row, said, told_about}
 
 -- the item of a loop over a list that was lent
 pub item_at : {X : Type 0} (xs items : List X) (n : ℕ) (x : X) → items ≡ xs → n < length items → x ≡ get_or items n x → slice_get xs n ≡ Some x
@@ -19,13 +19,13 @@ item_at xs items n x lent within is = ap (λ ys. slice_get ys n) (sym lent) ∙ 
 module _ (p : Parts) where
   -- ---- one subject
 
-  said-one : {X : Type 0} (s : Subject) (r : Rule X) (holds : Bool) (answers : List (Code × Bool)) (rules : List (Rule X)) → map (advice_of p) (said s answers) ≡ told_about (about_of p s) (map (λ q. q.0) rules)
+  said-one : {X : Type 0} (s : Subject) (r : AdviceRule X) (holds : Bool) (answers : List (Code × Bool)) (rules : List (AdviceRule X)) → map (advice_of p) (said s answers) ≡ told_about (about_of p s) (map (λ q. q.0) rules)
       → map (advice_of p) (said s ((r.0, holds) ∷ answers)) ≡ told_about (about_of p s) (map (λ q. q.0) (cond holds (r ∷ rules) rules))
   said-one s r true answers rules e = ap (λ cs. (r.0, about_of p s) ∷ cs) e
   said-one s r false answers rules e = e
 
   -- the advice that was added about a subject is that of its rules
-  said-is : {X : Type 0} (s : Subject) (rules : List (Rule X)) (x : X) → map (advice_of p) (said s (answers_of rules x)) ≡ told_about (about_of p s) (codes_of rules x)
+  said-is : {X : Type 0} (s : Subject) (rules : List (AdviceRule X)) (x : X) → map (advice_of p) (said s (answers_of rules x)) ≡ told_about (about_of p s) (codes_of rules x)
   said-is s [] x = refl
   said-is s (r ∷ rules) x = said-one s r (r.1 x) (answers_of rules x) (filter (λ q. q.1 x) rules) (said-is s rules x)
 
@@ -49,7 +49,7 @@ module _ (p : Parts) where
 
   -- ---- a loop over rows
 
-  module _ {X : Type 0} (id : X → List ℕ) (rules : List (Rule X)) (xs : List X) where
+  module _ {X : Type 0} (id : X → List ℕ) (rules : List (AdviceRule X)) (xs : List X) where
     pub told-begin : (old : List Advice) → Tells p (advice_on id rules (take 0 xs)) old old
     told-begin old = told-none old old refl
 

@@ -25,7 +25,7 @@ use Rattle.gtfs_advice.specs.declared.code.Code.TheVariants as code
 use Rattle.gtfs_advice.specs.declared.served_days.ServedDays.{ServedDays}
 use Rattle.gtfs_advice.specs.Advice.{About, IsWithin, Tells, about_day, about_of, advice_of, day, end_advice, gap_advice}
 use Rattle.gtfs_advice.specs.ServedDays.{AreAllKnown, days_before, end_of, end_said, gap_said, gaps_said, last_of}
-use Rattle.gtfs_advice.specs.Services.{begins_gap_of, ends_soon, gaps, is_served, is_used, last_served}
+use Rattle.gtfs_advice.specs.Services.{begins_gap_of, ends_soon, gaps, is_day_served, is_used, last_served}
 use Rattle.gtfs_advice.specs.UsedServices.{AreServiceMarks}
 use Rattle.gtfs_advice.specs.Waiting.{IsServedBy, runs_on}
 use Rattle.gtfs_advice.proofs.Gaps.{all_before, any_day, ended, one_more}
@@ -53,7 +53,7 @@ at_row services n d runs = by (slice_get services n) refl runs
     by (Some s) at active = (s, at, active)
 
 module _ (p : Parts) (sound : IsSoundParts p) (used : List Bool) (are : AreServiceMarks p true used) where
-  pub served_by : IsServedBy p.services used (is_served (content_of_parts p))
+  pub served_by : IsServedBy p.services used (is_day_served (content_of_parts p))
   served_by =
       let c = content_of_parts p in
       record {
@@ -126,10 +126,10 @@ not-not : (b : Bool) → not (not b) ≡ b
 not-not true = refl
 not-not false = refl
 
-module _ (p : Parts) (days : ServedDays) (all : AreAllKnown (is_served (content_of_parts p)) days) where
+module _ (p : Parts) (days : ServedDays) (all : AreAllKnown (is_day_served (content_of_parts p)) days) where
   gaps_are : days.gaps.items ≡ gaps (content_of_parts p)
   gaps_are =
-      let served = is_served (content_of_parts p) in
+      let served = is_day_served (content_of_parts p) in
       all.known.gaps ∙ sym (all_before (begins_gap_of served) days.until all.known.from all.to (λ d on. ended served d (λ e later. all.over e (omega (arith, signed_arith)))))
 
   pub told_gaps : (old new : List Advice) → new ≡ old ++ gaps_said days → Tells p (gap_advice (content_of_parts p)) old new
@@ -147,14 +147,14 @@ module _ (p : Parts) (days : ServedDays) (all : AreAllKnown (is_served (content_
       each (d ∷ ds) (suc k) a h = each ds k a (omega arith)
 
   about_last : about_of p (last_of days) ≡ about_day (last_served (content_of_parts p))
-  about_last = by (int_lt first_service_day days.until) ∙ ap about_day (sym (last_is (is_served (content_of_parts p)) days all))
+  about_last = by (int_lt first_service_day days.until) ∙ ap about_day (sym (last_is (is_day_served (content_of_parts p)) days all))
     where
       by : (b : Bool) → about_of p (if b then subject.Day (days.until -ℤ pos 1) else subject.Nothing) ≡ about_day (if b then Some (days.until -ℤ pos 1) else None)
       by true = refl
       by false = refl
 
   ends : (d : ℤ) → first_service_day ≤ℤ d → ends_soon (content_of_parts p) d ≡ int_le days.until (d +ℤ pos 6)
-  ends d low = ap not (over_from (is_served (content_of_parts p)) days all (d +ℤ pos 6) (omega (arith, signed_arith))) ∙ not-not (int_le days.until (d +ℤ pos 6))
+  ends d low = ap not (over_from (is_day_served (content_of_parts p)) days all (d +ℤ pos 6) (omega (arith, signed_arith))) ∙ not-not (int_le days.until (d +ℤ pos 6))
 
   within_last : (s : Subject) (b : Bool) → IsWithin p (if b then subject.Day (days.until -ℤ pos 1) else subject.Nothing)
   within_last s true = tt
@@ -187,8 +187,8 @@ module _ (p : Parts) (days : ServedDays) (all : AreAllKnown (is_served (content_
   told_days o old mid new (Err e) low gaps_told end_told = tt
 
 pub known_days : (p : Parts) (sound : IsSoundParts p) (used : List Bool) → AreServiceMarks p true used → (services : List ServiceByNumber) (marks : List Bool) → services ≡ p.services → marks ≡ used
-    → (r : Result ServedDays AllocError) → IfOk r (λ days. (served : ℤ → Bool) → IsServedBy services marks served → AreAllKnown served days) → IfOk r (AreAllKnown (is_served (content_of_parts p)))
+    → (r : Result ServedDays AllocError) → IfOk r (λ days. (served : ℤ → Bool) → IsServedBy services marks served → AreAllKnown served days) → IfOk r (AreAllKnown (is_day_served (content_of_parts p)))
 known_days p sound used are services marks lent read (Ok days) known =
-    known (is_served (content_of_parts p))
-    (subst (λ (x : List ServiceByNumber × List Bool). IsServedBy x.0 x.1 (is_served (content_of_parts p))) (λ i. (sym lent i, sym read i)) (served_by p sound used are))
+    known (is_day_served (content_of_parts p))
+    (subst (λ (x : List ServiceByNumber × List Bool). IsServedBy x.0 x.1 (is_day_served (content_of_parts p))) (λ i. (sym lent i, sym read i)) (served_by p sound used are))
 known_days p sound used are services marks lent read (Err e) known = tt

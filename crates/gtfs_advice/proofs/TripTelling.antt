@@ -20,7 +20,7 @@ use Rattle.gtfs_advice.specs.declared.advice.Advice.{Advice}
 use Rattle.gtfs_advice.specs.declared.advice.Subject.TheVariants as subject
 use Rattle.gtfs_advice.specs.declared.code.Code.{Code}
 use Rattle.gtfs_advice.specs.declared.courses.Course.{Course}
-use Rattle.gtfs_advice.specs.Advice.{Rule, Tells, advice_on, answers_of, row, said}
+use Rattle.gtfs_advice.specs.Advice.{AdviceRule, Tells, advice_on, answers_of, row, said}
 use Rattle.gtfs_advice.specs.Courses.{IsCourse}
 use Rattle.gtfs_advice.specs.Steps.{GoesAlong}
 use Rattle.gtfs_advice.proofs.RepeatedTrips.{trip_id-at, trips_counted}
@@ -89,7 +89,7 @@ module _ (p : Parts) (sound : IsSoundParts p) where
 
   -- ---- a loop over trips
 
-  module _ (rules : List (Rule Trip)) where
+  module _ (rules : List (AdviceRule Trip)) where
     abbrev pub Told : ℕ → List Advice → List Advice → Type 0
     Told n old new = Tells p (advice_on (λ t. t.trip_id) rules (take n (content_of_parts p).trips)) old new
 

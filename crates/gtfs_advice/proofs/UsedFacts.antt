@@ -26,7 +26,7 @@ use Rattle.gtfs_rows.proofs.SoundOrder.{in_order}
 use Rattle.gtfs_advice.specs.declared.advice.Advice.{Advice}
 use Rattle.gtfs_advice.specs.declared.advice.Subject.TheVariants as subject
 use Rattle.gtfs_advice.specs.declared.code.Code.{Code}
-use Rattle.gtfs_advice.specs.Advice.{Rule, Tells, advice_on, row, said, told_about}
+use Rattle.gtfs_advice.specs.Advice.{AdviceRule, Tells, advice_on, row, said, told_about}
 use Rattle.gtfs_advice.specs.Services.{has_no_trip}
 use Rattle.gtfs_advice.specs.UsedServices.{AreServiceMarks, is_trip_of, stands_under}
 use Rattle.gtfs_advice.proofs.Marking.{AreMarksSoFar, all-marked, named, none-more, one-marked}
@@ -165,13 +165,13 @@ of_those code stands holds [] = refl
 of_those code stands holds (x ∷ xs) = by (stands x) (of_those code stands holds xs)
   where
     by_holds : (b : Bool) → advice_on (λ s. s.service_id) ((code, λ s. stands s && holds s) ∷ []) xs ≡ advice_on (λ s. s.service_id) ((code, holds) ∷ []) (filter stands xs)
-        → told_about (row x.service_id) (map (λ (r : Rule ServiceRow). r.0) (cond b ((code, λ s. stands s && holds s) ∷ []) [])) ++ advice_on (λ s. s.service_id) ((code, λ s. stands s && holds s) ∷ []) xs
-        ≡ told_about (row x.service_id) (map (λ (r : Rule ServiceRow). r.0) (cond b ((code, holds) ∷ []) [])) ++ advice_on (λ s. s.service_id) ((code, holds) ∷ []) (filter stands xs)
+        → told_about (row x.service_id) (map (λ (r : AdviceRule ServiceRow). r.0) (cond b ((code, λ s. stands s && holds s) ∷ []) [])) ++ advice_on (λ s. s.service_id) ((code, λ s. stands s && holds s) ∷ []) xs
+        ≡ told_about (row x.service_id) (map (λ (r : AdviceRule ServiceRow). r.0) (cond b ((code, holds) ∷ []) [])) ++ advice_on (λ s. s.service_id) ((code, holds) ∷ []) (filter stands xs)
     by_holds true rest = ap (λ l. (code, row x.service_id) ∷ l) rest
     by_holds false rest = rest
 
     by : (b : Bool) → advice_on (λ s. s.service_id) ((code, λ s. stands s && holds s) ∷ []) xs ≡ advice_on (λ s. s.service_id) ((code, holds) ∷ []) (filter stands xs)
-        → told_about (row x.service_id) (map (λ (r : Rule ServiceRow). r.0) (cond (b && holds x) ((code, λ s. stands s && holds s) ∷ []) [])) ++ advice_on (λ s. s.service_id) ((code, λ s. stands s && holds s) ∷ []) xs
+        → told_about (row x.service_id) (map (λ (r : AdviceRule ServiceRow). r.0) (cond (b && holds x) ((code, λ s. stands s && holds s) ∷ []) [])) ++ advice_on (λ s. s.service_id) ((code, λ s. stands s && holds s) ∷ []) xs
         ≡ advice_on (λ s. s.service_id) ((code, holds) ∷ []) (cond b (x ∷ filter stands xs) (filter stands xs))
     by true rest = by_holds (holds x) rest
     by false rest = rest

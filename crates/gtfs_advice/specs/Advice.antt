@@ -26,11 +26,11 @@ pub data About : Type 0 where
   nothing : About
 
 -- a rule: the code, and of which rows it holds
-abbrev pub Rule : Type 0 → Type 0
-Rule X = Code × (X → Bool)
+abbrev pub AdviceRule : Type 0 → Type 0
+AdviceRule X = Code × (X → Bool)
 
 -- the codes of the rules that hold of a row, in the order of the rules
-abbrev pub codes_of : {X : Type 0} → List (Rule X) → X → List Code
+abbrev pub codes_of : {X : Type 0} → List (AdviceRule X) → X → List Code
 codes_of rules x = map (λ r. r.0) (filter (λ r. r.1 x) rules)
 
 -- each of these codes, about one subject
@@ -38,46 +38,46 @@ abbrev pub told_about : About → List Code → List (Code × About)
 told_about about cs = map (λ c. (c, about)) cs
 
 -- the advice on rows in turn
-abbrev pub advice_on : {X : Type 0} → (X → List ℕ) → List (Rule X) → List X → List (Code × About)
+abbrev pub advice_on : {X : Type 0} → (X → List ℕ) → List (AdviceRule X) → List X → List (Code × About)
 advice_on id rules xs = flat_map (λ x. told_about (row (id x)) (codes_of rules x)) xs
 
 -- whether each rule holds of a row
-abbrev pub answers_of : {X : Type 0} → List (Rule X) → X → List (Code × Bool)
+abbrev pub answers_of : {X : Type 0} → List (AdviceRule X) → X → List (Code × Bool)
 answers_of rules x = map (λ r. (r.0, r.1 x)) rules
 
 -- ---- the rules of each file
 
-abbrev pub agency_rules : Content → List (Rule Agency)
+abbrev pub agency_rules : Content → List (AdviceRule Agency)
 agency_rules c = (code.AgencyWithoutRoute, has_no_route c) ∷ (code.AddressWithoutScheme, has_no_web_address)
     ∷ (code.GarbledAgency, is_garbled_agency) ∷ []
 
-abbrev pub stop_rules : Content → List (Rule Stop)
+abbrev pub stop_rules : Content → List (AdviceRule Stop)
 stop_rules c = (code.StopWithoutTrip, has_no_call c) ∷ (code.StationWithoutStop, has_no_stop c)
     ∷ (code.StopNearZeroOrPole, is_near_zero_or_pole) ∷ (code.StopFarFromParent, is_far_from_parent c)
     ∷ (code.GarbledStop, is_garbled_stop) ∷ []
 
-abbrev pub route_rules : Content → List (Rule Route)
+abbrev pub route_rules : Content → List (AdviceRule Route)
 route_rules c = (code.RouteWithoutTrip, route.has_no_trip c) ∷ (code.RouteNamedAsAnother, route.is_named_as_another c)
     ∷ (code.LongShortName, route.has_long_short_name) ∷ (code.RepeatedShortName, route.repeats_short_name)
     ∷ (code.CloseColours, route.has_close_colours) ∷ (code.DirectionOfSomeTrips, route.has_some_directions c)
     ∷ (code.GarbledRoute, route.is_garbled_route) ∷ []
 
-abbrev pub trip_rules : Content → List (Rule Trip)
+abbrev pub trip_rules : Content → List (AdviceRule Trip)
 trip_rules c = (code.TripWithoutHeadsign, lacks_headsign) ∷ (code.TripAsAnother, is_same_as_another c)
     ∷ (code.GarbledTrip, is_garbled_trip) ∷ []
 
-abbrev pub stop_time_rules : Content → List (Rule Trip)
+abbrev pub stop_time_rules : Content → List (AdviceRule Trip)
 stop_time_rules c = (code.StopTwiceInARow, stops_twice_in_a_row) ∷ (code.SixStopsAtOneMoment, has_six_stops_at_one_moment)
     ∷ (code.FasterThanATrain, is_faster_than_a_train c) ∷ (code.NobodyGetsOnOrOff, has_closed_stop)
     ∷ (code.LongerThanADay, is_longer_than_a_day) ∷ []
 
-abbrev pub frequency_rules : List (Rule Trip)
+abbrev pub frequency_rules : List (AdviceRule Trip)
 frequency_rules = (code.PeriodOfOneRun, has_period_of_one_run) ∷ []
 
-abbrev pub calendar_rules : Content → List (Rule ServiceRow)
+abbrev pub calendar_rules : Content → List (AdviceRule ServiceRow)
 calendar_rules c = (code.ServiceWithoutTrip, service.has_no_trip c) ∷ []
 
-abbrev pub date_rules : Content → List (Rule ServiceRow)
+abbrev pub date_rules : Content → List (AdviceRule ServiceRow)
 date_rules c = (code.DatesWithoutTrip, service.has_no_trip c) ∷ []
 
 -- ---- the advice of each file

@@ -23,8 +23,8 @@ has_week s = is_some s.service.week
 abbrev pub is_used : Content → ServiceRow → Bool
 is_used c s = list_any (λ t. is_of_service s t && not (length t.stop_rows == 0)) c.trips
 
-abbrev pub is_served : Content → ℤ → Bool
-is_served c d = list_any (λ s. is_used c s && is_active s.service d) c.services
+abbrev pub is_day_served : Content → ℤ → Bool
+is_day_served c d = list_any (λ s. is_used c s && is_active s.service d) c.services
 
 -- no day of two weeks from this one on passes the test, and the day before it and a later one do
 abbrev pub begins_gap_of : (ℤ → Bool) → ℤ → Bool
@@ -33,7 +33,7 @@ begins_gap_of served d = served (d -ℤ pos 1) && not (list_any (λ k. served (d
 
 -- nothing runs on the day and on the 13 days after it, and something does on the day before it and on a later one
 abbrev pub begins_gap : Content → ℤ → Bool
-begins_gap c = begins_gap_of (is_served c)
+begins_gap c = begins_gap_of (is_day_served c)
 
 -- the days on which two weeks or more without service begin, ascending
 abbrev pub gaps : Content → List ℤ
@@ -41,7 +41,7 @@ gaps c = filter (begins_gap c) service_days
 
 -- something runs on this day or a later one
 abbrev pub is_served_from : Content → ℤ → Bool
-is_served_from c d = list_any (λ e. int_le d e && is_served c e) service_days
+is_served_from c d = list_any (λ e. int_le d e && is_day_served c e) service_days
 
 -- fewer than seven days are left from this day on: nothing runs from the sixth day after it on
 abbrev pub ends_soon : Content → ℤ → Bool
@@ -49,4 +49,4 @@ ends_soon c d = not (is_served_from c (d +ℤ pos 6))
 
 -- the last day on which something runs
 abbrev pub last_served : Content → Option ℤ
-last_served c = last_or None (filter (is_served c) service_days)
+last_served c = last_or None (filter (is_day_served c) service_days)

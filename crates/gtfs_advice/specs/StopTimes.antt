@@ -8,7 +8,7 @@ use Rattle.gtfs_rows.specs.Content.{Content}
 use Rattle.gtfs_rows.specs.Rows.{Stop, StopRow, Trip}
 use Rattle.gtfs_rows.specs.Runs.{first_leaves, is_timed}
 use Rattle.gtfs_rows.specs.Sound.{comes, leaves}
-use Rattle.gtfs_advice.specs.Stops.{has_place, stop_of}
+use Rattle.gtfs_advice.specs.Stops.{has_place, stop_with_id}
 
 -- ---- rows that follow each other
 
@@ -50,7 +50,7 @@ abbrev pub latitude : Stop → Option ℤ
 latitude s = if has_place s then s.stop_lat else None
 
 abbrev pub latitude_at : Content → StopRow → Option ℤ
-latitude_at c row = option_and_then latitude (stop_of c row.stop_id)
+latitude_at c row = option_and_then latitude (stop_with_id c row.stop_id)
 
 -- farther apart, in units of 10^-9 degree of latitude, than 500 km/h allow from this second to that, with a minute more
 abbrev pub is_too_far : ℤ → ℤ → ℕ → ℕ → Bool

@@ -9,8 +9,8 @@ use Rattle.gtfs_rows.specs.Rows.{Stop, Trip}
 use Rattle.gtfs_advice.specs.Texts.{is_garbled_if_given}
 
 -- the stop of an id
-abbrev pub stop_of : Content → List ℕ → Option Stop
-stop_of c id = find (λ s. bytes_eq s.stop_id id) c.stops
+abbrev pub stop_with_id : Content → List ℕ → Option Stop
+stop_with_id c id = find (λ s. bytes_eq s.stop_id id) c.stops
 
 -- ---- which stops are used
 
@@ -52,7 +52,7 @@ is_far s t = has_place s && has_place t
     && (differ_by_more 10_000_000 s.stop_lat t.stop_lat || differ_by_more 20_000_000 s.stop_lon t.stop_lon)
 
 abbrev pub is_far_from_parent : Content → Stop → Bool
-is_far_from_parent c s = if_there (option_and_then (stop_of c) s.parent_station) (is_far s)
+is_far_from_parent c s = if_there (option_and_then (stop_with_id c) s.parent_station) (is_far s)
 
 abbrev pub is_garbled_stop : Stop → Bool
 is_garbled_stop s = is_garbled_if_given s.stop_name

@@ -1,5 +1,5 @@
-ghost use Rattle.std.specs.Prelude.{◌≡◌};
-ghost use Rattle.gtfs_advice.specs.Codes.{code_name, code_text, file_of};
+ghost use Rattle.std.specs.Prelude.{◌≡◌, ◌<◌};
+ghost use Rattle.gtfs_advice.specs.Codes.{advice_name, advice_rank, advice_text, file_of};
 
 use gtfs_table::File;
 
@@ -68,6 +68,17 @@ pub enum Code {
 }
 
 impl Code {
+    /// How many codes there are.
+    pub const COUNT: usize = 28;
+
+    /// The place of the code among all codes, in their order, from 0.
+    pub fn rank(self) -> usize
+        ensures rank { result ≡ advice_rank self }
+        ensures within { result < 28 }
+    {
+        self as usize
+    }
+
     /// The file under which the advice stands.
     pub fn file(self) -> File
         ensures { result ≡ file_of self }
@@ -103,7 +114,7 @@ impl Code {
     /// The name that is printed, `A01` to `A24`. Codes that say the same of rows of several files
     /// share one.
     pub fn name(self) -> &'static str
-        ensures { result.now ≡ code_name self }
+        ensures { result.now ≡ advice_name self }
     {
         match self {
             Code::AgencyWithoutRoute => "A01",
@@ -137,7 +148,7 @@ impl Code {
 
     /// What the advice says, in a few words.
     pub fn text(self) -> &'static str
-        ensures { result.now ≡ code_text self }
+        ensures { result.now ≡ advice_text self }
     {
         match self {
             Code::AgencyWithoutRoute => "no route",

@@ -4,7 +4,7 @@ ghost use Rattle.gtfs_days.specs.Service.{first_service_day};
 ghost use Rattle.gtfs_rows.specs.Views.{IsSoundParts, content_of_parts};
 ghost use Rattle.gtfs_advice.specs.Advice.{Tells, end_advice, gap_advice};
 ghost use Rattle.gtfs_advice.specs.ServedDays.{AreAllKnown, end_said, gaps_said, last_of};
-ghost use Rattle.gtfs_advice.specs.Services.{is_served};
+ghost use Rattle.gtfs_advice.specs.Services.{is_day_served};
 
 use crate::advice::{Advice, Subject};
 use crate::code::Code;
@@ -36,7 +36,7 @@ pub(crate) fn tell_days(
 // The days on which a service that some trip with a stop time has runs.
 fn served_days(alloc: Global, parts: &Parts) -> Result<ServedDays, OutOfMemory>
     requires { IsSoundParts parts.now }
-    ensures { IfOk result (AreAllKnown (is_served (content_of_parts parts.now))) }
+    ensures { IfOk result (AreAllKnown (is_day_served (content_of_parts parts.now))) }
 {
     let used = with_trips(alloc, parts, true)?;
     all_days(alloc, parts.services.as_slice(), &used)

@@ -2,8 +2,8 @@
 use Rattle.std.proofs.Common.{◌≡◌, ◌∙◌, ap, refl, sym, subst, true, false, true≢false, Bool, bytes_eq, inl, inr, List, Option, Some, None, codes, Result}
 use Rattle.std.specs.Prelude.{⊤, IsSome}
 use Rattle.clap.specs.Words.{Row, Text, first_of, subcommand_of, takes}
-use Rattle.gtfs_commands.specs.Asked.{is_flagged, ForBoard, ForBoards, ForCheck, ForMerge, ForServe, ForTimetable, HasBoard, HasBoards, HasMerge, HasServe, HasTimetable, GivesBoard, GivesBoards, GivesMerge, GivesServe, GivesTimetable, IsWhole}
-use Rattle.gtfs_commands.specs.Words.{gtfs_app, boards_texts_of, merge_texts_of, serve_texts_of, texts_of, timetable_texts_of, BoardTexts, BoardsTexts, IsCommandOf, MergeTexts, ServeTexts, TimetableTexts}
+use Rattle.gtfs_commands.specs.Asked.{is_flagged, ForBoard, ForBoards, ForCheck, ForMerge, ForServe, ForTimetable, HasBoard, HasBoards, HasCheck, HasMerge, HasServe, HasTimetable, GivesBoard, GivesBoards, GivesCheck, GivesMerge, GivesServe, GivesTimetable, IsWhole}
+use Rattle.gtfs_commands.specs.Words.{gtfs_app, boards_texts_of, check_texts_of, merge_texts_of, serve_texts_of, texts_of, timetable_texts_of, BoardTexts, BoardsTexts, CheckTexts, IsCommandOf, MergeTexts, ServeTexts, TimetableTexts}
 use Rattle.gtfs_commands.specs.declared.command.Command.{Command}
 use Rattle.gtfs_commands.specs.declared.command.Command.TheVariants as commands
 use Rattle.gtfs_commands.specs.declared.command.ServeTexts.{ServeTexts as LentServeTexts}
@@ -19,6 +19,19 @@ use Rattle.gtfs_cli.specs.Asked.{Asked, Asks, HearsNothing, Board, Boards, Check
 value_of : {A : Type 0} (o : Option A) → IsSome o → (x : A) × (o ≡ Some x)
 value_of None some = cc some
 value_of (Some x) some = (x, refl)
+
+check_of : (given : List Row) → HasCheck given → (asked : CheckTexts) × GivesCheck given asked
+check_of given has =
+    let dir = value_of (first_of (codes "DIR") given) has in (
+      record {
+        dir = dir.0;
+        values = is_flagged (codes "values") given;
+        summary = is_flagged (codes "summary") given;
+        advise = is_flagged (codes "advise") given;
+        day = first_of (codes "day") given;
+      },
+      record { dir = dir.1; values = refl; summary = refl; advise = refl; day = refl },
+    )
 
 board_of : (given : List Row) → HasBoard given → (asked : BoardTexts) × GivesBoard given asked
 board_of given has =
@@ -83,7 +96,7 @@ merge_of given has =
 
 -- a command is named, and its texts are given
 abbrev ForOne : Option (Text × List Row) → Asked → Type 0
-ForOne found (Check dir) = ForCheck found dir
+ForOne found (Check texts) = ForCheck found texts
 ForOne found (Board texts) = ForBoard found texts
 ForOne found (Boards texts) = ForBoards found texts
 ForOne found (Serve texts) = ForServe found texts
@@ -93,7 +106,7 @@ ForOne found Untaken = ⊥
 
 for-one : (found : Option (Text × List Row)) → IsWhole found → (asked : Asked) × ForOne found asked
 for-one None none = absurd none
-for-one (Some found) (inl (named, has)) = let dir = value_of (first_of (codes "DIR") found.1) has in (Check dir.0, (named, dir.1))
+for-one (Some found) (inl (named, has)) = let texts = check_of found.1 has in (Check texts.0, (named, texts.1))
 for-one (Some found) (inr (inl (named, has))) = let texts = board_of found.1 has in (Board texts.0, (named, texts.1))
 for-one (Some found) (inr (inr (inl (named, has)))) = let texts = boards_of found.1 has in (Boards texts.0, (named, texts.1))
 for-one (Some found) (inr (inr (inr (inl (named, has))))) = let texts = serve_of found.1 has in (Serve texts.0, (named, texts.1))
@@ -102,7 +115,7 @@ for-one (Some found) (inr (inr (inr (inr (inr (named, has)))))) = let texts = me
 
 -- what is asked for where `clap` takes the words
 asks-by : (words : List Text) → takes gtfs_app words ≡ true → (asked : Asked) → ForOne (subcommand_of gtfs_app words) asked → Asks words asked
-asks-by words taken (Check dir) is = record { taken = taken; asks = is }
+asks-by words taken (Check texts) is = record { taken = taken; asks = is }
 asks-by words taken (Board texts) is = record { taken = taken; asks = is }
 asks-by words taken (Boards texts) is = record { taken = taken; asks = is }
 asks-by words taken (Serve texts) is = record { taken = taken; asks = is }
@@ -124,7 +137,7 @@ IsTaken Untaken = ⊥
 IsTaken _ = ⊤
 
 abbrev name_of : Asked → Text
-name_of (Check dir) = codes "check"
+name_of (Check texts) = codes "check"
 name_of (Board texts) = codes "board"
 name_of (Boards texts) = codes "boards"
 name_of (Serve texts) = codes "serve"
@@ -145,7 +158,7 @@ abbrev IsNamed : Option (Text × List Row) → Text → Type 0
 IsNamed None name = ⊥
 IsNamed (Some found) name = found.0 ≡ name
 
-check-named : (found : Option (Text × List Row)) (texts : Text) → ForCheck found texts → IsNamed found (codes "check")
+check-named : (found : Option (Text × List Row)) (texts : CheckTexts) → ForCheck found texts → IsNamed found (codes "check")
 check-named None texts asks = absurd asks
 check-named (Some found) texts asks = asks.0
 
@@ -246,7 +259,7 @@ one-asked words Untaken Untaken a b = refl
 -- ---- the command that was read
 
 abbrev pub asked_by : Command → Asked
-asked_by (commands.Check dir) = Check dir.now
+asked_by (commands.Check words) = Check (check_texts_of words)
 asked_by (commands.Board words) = Board (texts_of words)
 asked_by (commands.Boards words) = Boards (boards_texts_of words)
 asked_by (commands.Serve words) = Serve (serve_texts_of words)

@@ -7,13 +7,13 @@ use Rattle.std.proofs.lemmas.List.Sums.{sum_by-cons}
 use Rattle.gtfs_columns.specs.Codes.{is_error}
 use Rattle.gtfs_columns.specs.Problems.{Problem, passes}
 use Rattle.gtfs_rules.specs.Report.{counts_line}
-use Rattle.gtfs_cli.specs.Checking.{counts_text}
+use Rattle.gtfs_cli.specs.CheckLines.{counts_text}
 
-count-cons : {X : Type 0} (p : X → Bool) (x : X) (xs : List X) → count_by p (x ∷ xs) ≡ cond (p x) 1 0 + count_by p xs
+pub count-cons : {X : Type 0} (p : X → Bool) (x : X) (xs : List X) → count_by p (x ∷ xs) ≡ cond (p x) 1 0 + count_by p xs
 count-cons p x xs = sum_by-cons (λ y. cond (p y) 1 0) x xs
 
 -- what passes a test and what does not are all
-all-counted : {X : Type 0} (p : X → Bool) (xs : List X) → count_by p xs + count_by (λ x. not (p x)) xs ≡ length xs
+pub all-counted : {X : Type 0} (p : X → Bool) (xs : List X) → count_by p xs + count_by (λ x. not (p x)) xs ≡ length xs
 all-counted p [] = refl
 all-counted p (x ∷ xs) =
     step (p x) _ _ _ _ _ _ (count-cons p x xs) (count-cons (λ y. not (p y)) x xs) (omega arith) (all-counted p xs)

@@ -5,13 +5,18 @@ mod CallsMade
 mod ReadsThen
 mod FoldersRead
 pub mod Counted
-pub mod Reported
 mod Parts
 mod Sent
 mod ControlSplit
 mod Opening
 mod Ended
 mod Tabled
+mod SentLines
+mod MadeLines
+mod AlikeProblems
+mod AdviceTold
+mod Checked
+mod ShownValues
 mod Untaken
 pub mod Sequences
 mod NamesTold

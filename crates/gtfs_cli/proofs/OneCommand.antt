@@ -14,7 +14,7 @@ use Rattle.gtfs_cli.proofs.OneTimetable.{one-timetable}
 
 pub one-command : (limit : ℕ) (store : Store) (talk : Talk) (words : List Text) (asked : Asked) → takes gtfs_app words ≡ true → Asks words asked → HearsNothing asked
     → IsOne (plan_of limit (Some store) talk words asked) (Some store)
-one-command limit store talk words (Check dir) taken asks quiet = one-check limit store dir
+one-command limit store talk words (Check texts) taken asks quiet = one-check limit store texts
 one-command limit store talk words (Board texts) taken asks quiet = one-board limit store texts
 one-command limit store talk words (Boards texts) taken asks quiet = one-boards limit store texts
 one-command limit store talk words (Timetable texts) taken asks quiet = one-timetable limit store texts

@@ -1,5 +1,5 @@
 -- From the parts of a command's work to how the command ends.
-use Rattle.std.proofs.Common.{◌≡◌, ◌∙◌, ◌⊎◌, ◌≤◌, ℕ, Bool, List, [], Option, Result, Ok, Err, inl, inr, refl, sym, subst, arith}
+use Rattle.std.proofs.Common.{◌≡◌, ◌∙◌, ap, ◌⊎◌, ◌≤◌, ℕ, Bool, List, [], Option, Result, Ok, Err, inl, inr, refl, sym, subst, arith}
 use Rattle.std.specs.Prelude.{IfOk, IsErrAnd}
 use Rattle.std.specs.Io.KnownBytes.{Appends}
 use Rattle.std.proofs.KnownBytes.{Appends-nil}
@@ -11,7 +11,7 @@ use Rattle.gtfs_cli.specs.Plan.{answer_of, passed, prints, Ends, IsRefusedIn, Pl
 use Rattle.gtfs_cli.specs.Reads.{CallsFolders}
 use Rattle.gtfs_cli.specs.Refusals.{TellsFolders, TellsOutput}
 use Rattle.gtfs_cli.specs.Seen.{Device, Output}
-use Rattle.gtfs_cli.specs.Sending.{or_none, text_left, Begins, IsSendingCause, IsSent, PrintsText, SendsSome}
+use Rattle.gtfs_cli.specs.Sending.{joined, or_none, text_left, AreWholeLines, AreSent, Begins, IsSendingCause, IsSent, PrintsText, SendsSome}
 use Rattle.gtfs_cli.specs.declared.commands.refusal.Refusal.{Refusal}
 use Rattle.gtfs_cli.specs.declared.commands.refusal.Refusal.TheVariants.{OutputFailed, OutOfMemory}
 use Rattle.gtfs_cli.proofs.FailuresTold.{output-kept, sending-told}
@@ -222,32 +222,41 @@ sent-printed W Cause a b text is (Err e) h = record {
 
 -- ---- a check
 
-module _ (a b : Device) (before after : Output) (judges : Judged) (Text : List ℕ → Bool → Type 0) (text : List ℕ) (calls : ℕ) (same : b.held ≡ a.held)
+module _ (a b : Device) (before after : Output) (judges : Judged) (Text : List ℕ → Bool → Type 0) (Part : List ℕ → Type 0) (lines : List (List ℕ)) (calls : ℕ) (same : b.held ≡ a.held)
     (cause : (e : Refusal) → IsSendingCause before.failures after.failures e
     → IsRefusedIn judges (record { folders = a.failures; output = before.failures }) (record { folders = b.failures; output = after.failures }) e) where
   abbrev Some : List ℕ → Type 0
   Some t = (failed : Bool) × Text t failed
 
-  -- its text was sent out, and this is its answer
-  pub ends-checked : (failed : Bool) → Text text failed → (r : Result Bool Refusal) → IfOk r (λ x. x ≡ failed) → CallsFolders calls a b r → IsSent text before after r
-      → Ends (prints a.held judges Text (Begins Some) (Begins Some) calls) (record { folders = a; output = before }) (record { folders = b; output = after }) r
-  ends-checked failed is (Ok x) answer asks h = record {
-    done = (text, (same, subst (Text text) (sym answer) is), h.sent);
+  -- its lines were sent out, and this is its answer
+  pub ends-checked : (failed : Bool) → Text (joined lines) failed → ((t : List ℕ) → AreWholeLines lines t → Part t) → (r : Result Bool Refusal) → IfOk r (λ x. x ≡ failed)
+      → CallsFolders calls a b r → AreSent lines before after r
+      → Ends (prints a.held judges Text (Begins Some) Part calls) (record { folders = a; output = before }) (record { folders = b; output = after }) r
+  ends-checked failed is part (Ok x) answer asks h = record {
+    done = (joined lines, (same, subst (Text (joined lines)) (sym answer) is), h.sent.sent);
     left = tt;
     refused = tt;
     told = tt;
-    grows = h.grows;
-    no_failure = h.no_failure;
+    grows = h.sent.grows;
+    no_failure = h.sent.no_failure;
     asks = asks;
   }
-  ends-checked failed is (Err e) answer asks h =
-      let p = sent-printed {A = Bool} Some (λ _. ⊥) before after text (failed, is) (Err e) h in
-      record {
-        done = tt;
-        left = (p.left.0, (same, p.left.1), p.left.2);
-        refused = cause e h.refused;
-        told = p.told;
-        grows = h.grows;
-        no_failure = tt;
-        asks = asks;
-      }
+  ends-checked failed is part (Err e) answer asks h = record {
+    done = tt;
+    left = left-of e refl h.sent.refused;
+    refused = cause e h.sent.refused;
+    told = sending-told before.failures after.failures e h.sent.refused;
+    grows = h.sent.grows;
+    no_failure = tt;
+    asks = asks;
+  }
+    where
+      left-of : (x : Refusal) → x ≡ e → IsSendingCause before.failures after.failures x
+          → SendsSome (λ t. (b.held ≡ a.held) × text_left (Begins Some) (or_none Part) t x) before after
+      left-of OutputFailed is_e c = (
+        h.sent.cut_short.sent,
+        (same, record { text = joined lines; left = h.sent.cut_short.left; is_text = (failed, is); whole = h.sent.cut_short.whole }),
+        h.sent.cut_short.out,
+      )
+      left-of OutOfMemory is_e c = let s = h.stopped (ap (λ (y : Refusal). Err y) (sym is_e)) in (s.0, (same, inr (part s.0 s.1)), s.2)
+      left-of _ is_e c = absurd c

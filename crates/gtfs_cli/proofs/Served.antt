@@ -131,7 +131,7 @@ pub input-kept : (limit : ℕ) (held : Option Store) (talk : Talk) (words : List
     → Ends (plan_of limit held talk words asked) before after ended → (HearsNothing asked → talk.after ≡ talk.before) → status_in ended ≢ 3 → talk.after.failures ≡ talk.before.failures
 input-kept limit held talk words (Serve texts) before after (Ok failed) ends unheard other = ends.done.1.2.1.no_failure
 input-kept limit held talk words (Serve texts) before after (Err e) ends unheard other = served-failures limit held talk texts e ends.left.0 ends.left.1.1 other
-input-kept limit held talk words (Check dir) before after ended ends unheard other = same-failures talk (unheard tt)
+input-kept limit held talk words (Check texts) before after ended ends unheard other = same-failures talk (unheard tt)
 input-kept limit held talk words (Board texts) before after ended ends unheard other = same-failures talk (unheard tt)
 input-kept limit held talk words (Boards texts) before after ended ends unheard other = same-failures talk (unheard tt)
 input-kept limit held talk words (Timetable texts) before after ended ends unheard other = same-failures talk (unheard tt)

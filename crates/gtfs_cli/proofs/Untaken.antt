@@ -42,7 +42,7 @@ answer-cut {A} words a b text bytes is same n out rises grows r failed =
 -- ---- what a command ends with whose words were not read
 
 left-memory : (limit : ℕ) (held : Option Store) (talk : Talk) → talk.after ≡ talk.before → (words : List Text) (asked : Asked) → (plan_of limit held talk words asked).Left held [] OutOfMemory
-left-memory limit held talk same words (Check dir) = (refl, inl refl)
+left-memory limit held talk same words (Check texts) = (refl, inl refl)
 left-memory limit held talk same words (Board texts) = (refl, inl refl)
 left-memory limit held talk same words (Boards texts) = (refl, inl refl)
 left-memory limit held talk same words (Serve texts) = (refl, (refl, same))
@@ -107,7 +107,7 @@ module _ (talk : Talk) (same : talk.after ≡ talk.before) (words : List Text) (
   pub ends-fault : (taken : takes gtfs_app words ≡ true → IsErrAnd r (λ e. e ≡ OutOfMemory) × Keeps x.told y.told) → IfOk r (λ failed. failed ≡ false) → (asked : Asked) → Asks words asked
       → Ends (plan_of a.limit a.held talk words asked) (record { folders = a; output = x }) (record { folders = a; output = y }) r
   ends-fault taken clean Untaken asks = ends-words clean
-  ends-fault taken clean (Check dir) asks = let t = taken asks.taken in ends-unread (Check dir) t.0 t.1
+  ends-fault taken clean (Check texts) asks = let t = taken asks.taken in ends-unread (Check texts) t.0 t.1
   ends-fault taken clean (Board texts) asks = let t = taken asks.taken in ends-unread (Board texts) t.0 t.1
   ends-fault taken clean (Boards texts) asks = let t = taken asks.taken in ends-unread (Boards texts) t.0 t.1
   ends-fault taken clean (Serve texts) asks = let t = taken asks.taken in ends-unread (Serve texts) t.0 t.1

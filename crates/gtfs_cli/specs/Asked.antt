@@ -2,7 +2,7 @@
 use Rattle.std.specs.Prelude.{◌≡◌, ⊤, ℕ, false, List, Option, Some}
 use Rattle.clap.specs.Words.{Text, takes}
 use Rattle.gtfs_devices.specs.Folder.{Store}
-use Rattle.gtfs_commands.specs.Words.{gtfs_app, AreForHelpOrVersion, AreRefused, AsksBoardOf, AsksBoardsOf, AsksCheckOf, AsksMergeOf, AsksServeOf, AsksTimetableOf, BoardTexts, BoardsTexts, IsFaultOf, MergeTexts, ServeTexts, TimetableTexts}
+use Rattle.gtfs_commands.specs.Words.{gtfs_app, AreForHelpOrVersion, AreRefused, AsksBoardOf, AsksBoardsOf, AsksCheckOf, AsksMergeOf, AsksServeOf, AsksTimetableOf, BoardTexts, BoardsTexts, CheckTexts, IsFaultOf, MergeTexts, ServeTexts, TimetableTexts}
 use Rattle.gtfs_commands.specs.declared.fault.WordsFault.{WordsFault}
 use Rattle.gtfs_cli.specs.Boards.{board_plan}
 use Rattle.gtfs_cli.specs.Checking.{check_plan}
@@ -20,7 +20,7 @@ use Rattle.gtfs_cli.specs.declared.commands.refusal.Refusal.TheVariants.{Words}
 
 -- a command with the texts that are given to it, or words that `clap` does not take: they ask for help or for the version, or are refused
 pub data Asked : Type 0 where
-  Check : Text → Asked
+  Check : CheckTexts → Asked
   Board : BoardTexts → Asked
   Boards : BoardsTexts → Asked
   Serve : ServeTexts → Asked
@@ -30,7 +30,7 @@ pub data Asked : Type 0 where
 
 -- the words ask for it
 abbrev pub Asks : List Text → Asked → Type 0
-Asks words (Check dir) = AsksCheckOf words dir
+Asks words (Check texts) = AsksCheckOf words texts
 Asks words (Board texts) = AsksBoardOf words texts
 Asks words (Boards texts) = AsksBoardsOf words texts
 Asks words (Serve texts) = AsksServeOf words texts
@@ -63,7 +63,7 @@ words_plan held words = prints held (followed_by (usage words) sending) (passed 
 
 -- what is asked for, over folders that read files up to a limit and hold this, in a conversation, in which only `serve` takes part
 abbrev pub plan_of : ℕ → Option Store → Talk → List Text → Asked → Plan
-plan_of limit held talk words (Check dir) = check_plan limit held dir
+plan_of limit held talk words (Check texts) = check_plan limit held texts
 plan_of limit held talk words (Board texts) = board_plan limit held texts
 plan_of limit held talk words (Boards texts) = boards_plan limit held texts
 plan_of limit held talk words (Serve texts) = serve_plan limit held talk texts

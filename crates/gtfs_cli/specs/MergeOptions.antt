@@ -2,9 +2,9 @@
 use Rattle.std.specs.Prelude.{◌≡◌, ℕ, ℤ, Bool, codes, is_some, List, [], ◌∷◌, Option, Some, None, option_map}
 use Rattle.std.specs.Result.{result_ok}
 use Rattle.clap.specs.Words.{Text}
-use Rattle.gtfs_field.specs.Kinds.{count_of, date_of}
+use Rattle.gtfs_field.specs.Kinds.{count_of}
 use Rattle.gtfs_commands.specs.Words.{MergeTexts}
-use Rattle.gtfs_cli.specs.Options.{first_of_bad, service_day}
+use Rattle.gtfs_cli.specs.Options.{day_if_given, first_of_bad}
 
 -- up to how many millionths of a degree apart stops become one, if they do; its text has to be a count
 abbrev pub near_of : Option Text → Option (Option ℕ)
@@ -13,8 +13,7 @@ near_of (Some text) = option_map Some (result_ok (count_of text))
 
 -- the service day from which the second feed counts, and the first one before it, if there is one; its text has to be such a day
 abbrev pub cutoff_of : Option Text → Option (Option ℤ)
-cutoff_of None = Some None
-cutoff_of (Some text) = option_map Some (service_day (date_of text))
+cutoff_of text = day_if_given text
 
 -- the options whose texts are judged, in the order of the usage, and whether each has a value
 abbrev pub judged_merge : MergeTexts → List (Text × Bool)

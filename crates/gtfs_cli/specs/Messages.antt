@@ -2,7 +2,7 @@
 use Rattle.std.specs.Prelude.{◌≡◌, ℕ, List, [], ◌++◌, codes, decimal, string_bytes, ⊤}
 use Rattle.gtfs_columns.specs.Values.{plain}
 use Rattle.gtfs_cli.specs.declared.commands.refusal.Refusal.{Refusal}
-use Rattle.gtfs_cli.specs.declared.commands.refusal.Refusal.TheVariants.{Words, BadValue, NotThere, Unreadable, OverLimit, HasErrors, NoZone, UnknownStop, UnknownRoute, UntilBeforeFrom, ZonesDiffer, MergeTooLarge, Unwritable, Line, InputFailed, OutputFailed, OutOfMemory}
+use Rattle.gtfs_cli.specs.declared.commands.refusal.Refusal.TheVariants.{Words, BadValue, DayWithoutAdvice, NotThere, Unreadable, OverLimit, HasErrors, NoZone, UnknownStop, UnknownRoute, UntilBeforeFrom, ZonesDiffer, MergeTooLarge, Unwritable, Line, InputFailed, OutputFailed, OutOfMemory}
 use Rattle.gtfs_cli.specs.declared.commands.request_fault.RequestFault.{RequestFault}
 use Rattle.gtfs_cli.specs.declared.commands.request_fault.RequestFault.TheVariants as requests
 
@@ -26,6 +26,7 @@ request_line (requests.UntilBeforeFrom number) = number
 abbrev pub message : Refusal → List ℕ
 message (Words text) = string_bytes text
 message (BadValue option) = line_of (codes "bad value of ") option.now
+message DayWithoutAdvice = line_of (codes "--day needs --advise") []
 message (NotThere path) = line_of path.now (codes " is not there")
 message (Unreadable path) = line_of path.now (codes " cannot be read")
 message (OverLimit path) = line_of path.now (codes " holds a file over the limit")

@@ -7,7 +7,7 @@ use Rattle.gtfs_cli.specs.HeldFiles.{HoldsErrors, HoldsKeptFile, LacksFeed}
 use Rattle.gtfs_cli.specs.declared.commands.moments.Moment.{Moment}
 use Rattle.gtfs_cli.specs.declared.commands.moments.Moment.TheVariants.{Instant, ServiceDay}
 use Rattle.gtfs_cli.specs.declared.commands.refusal.Refusal.{Refusal}
-use Rattle.gtfs_cli.specs.declared.commands.refusal.Refusal.TheVariants.{Words, BadValue, NotThere, Unreadable, OverLimit, HasErrors, NoZone, UnknownStop, UnknownRoute, UntilBeforeFrom, ZonesDiffer, MergeTooLarge, Unwritable, Line, InputFailed, OutputFailed, OutOfMemory}
+use Rattle.gtfs_cli.specs.declared.commands.refusal.Refusal.TheVariants.{Words, BadValue, DayWithoutAdvice, NotThere, Unreadable, OverLimit, HasErrors, NoZone, UnknownStop, UnknownRoute, UntilBeforeFrom, ZonesDiffer, MergeTooLarge, Unwritable, Line, InputFailed, OutputFailed, OutOfMemory}
 use Rattle.gtfs_cli.specs.declared.commands.request_fault.RequestFault.{RequestFault}
 use Rattle.gtfs_cli.specs.declared.commands.request_fault.RequestFault.TheVariants as requests
 
@@ -20,6 +20,7 @@ request_status (requests.UntilBeforeFrom number) = 2
 abbrev pub status_of : Refusal → ℕ
 status_of (Words text) = 2
 status_of (BadValue option) = 2
+status_of DayWithoutAdvice = 2
 status_of (NotThere path) = 3
 status_of (Unreadable path) = 3
 status_of (OverLimit path) = 3

@@ -1,5 +1,5 @@
 -- Texts that go out to an output, which may fail.
-use Rattle.std.specs.Prelude.{◌≡◌, ◌≤◌, ◌⊎◌, ◌++◌, ℕ, List, [], Option, Result, IfErr, OnErr, OnOk}
+use Rattle.std.specs.Prelude.{◌≡◌, ◌≤◌, ◌⊎◌, ◌++◌, ℕ, List, [], Option, Result, IfErr, IsErrOf, OnErr, OnOk}
 use Rattle.std.specs.Io.KnownBytes.{Appends}
 use Rattle.std.specs.List.{flat_map}
 use Rattle.gtfs_devices.specs.Device.{Rises}
@@ -49,6 +49,19 @@ pub record Begins (Text : List ℕ → Type 0) (part : List ℕ) : Type 0 where
 -- the texts of the first of some things, one after another: of all, of some or of none
 abbrev pub AreFirst : {A : Type 0} → (A → List ℕ) → List A → List ℕ → Type 0
 AreFirst {A} text_of all text = (first : List A) × (rest : List A) × (all ≡ first ++ rest) × (text ≡ flat_map text_of first)
+
+-- lines, one after another
+abbrev pub joined : List (List ℕ) → List ℕ
+joined lines = flat_map (λ line. line) lines
+
+-- the first of some lines, whole: all, some or none
+abbrev pub AreWholeLines : List (List ℕ) → List ℕ → Type 0
+AreWholeLines lines text = AreFirst (λ line. line) lines text
+
+-- how it ends to send lines out: as their text does, and where memory ran out the first ones went out, whole
+pub record AreSent (lines : List (List ℕ)) {T : Type 0} (before after : Output) (ended : Result T Refusal) : Type 0 where
+  pub sent : IsSent (joined lines) before after ended
+  pub stopped : IsErrOf ended OutOfMemory → SendsSome (AreWholeLines lines) before after
 
 -- nothing, or a text of which this is so
 abbrev pub or_none : (List ℕ → Type 0) → List ℕ → Type 0

@@ -12,6 +12,7 @@ ghost use Rattle.gtfs_cli.specs.Sending.{or_none, Begins, PrintsText};
 ghost use Rattle.gtfs_cli.specs.UntakenWords.{text_for_output, AnswersRefused};
 ghost use Rattle.gtfs_cli.specs.declared.commands.refusal.Refusal.TheVariants.{OutOfMemory};
 
+mod advice;
 mod answers;
 mod board;
 mod boards;
@@ -19,12 +20,14 @@ mod check;
 mod feed;
 mod files;
 mod folder;
+mod kinds;
 mod merge;
 mod merge_values;
 mod messages;
 mod moments;
 mod names;
 mod paths;
+mod problems;
 mod questions;
 mod refusal;
 mod request_fault;
@@ -241,7 +244,7 @@ fn command<'w, S: AsStr, F: Folders, I: Input<O>, O: Out>(
         → input.new ≡ input.old }
 {
     match read_words(alloc, words) {
-        Ok(Command::Check(dir)) => check::print_report(alloc, dir, folders, out),
+        Ok(Command::Check(given)) => check::print_report(alloc, random, &given, folders, out),
         Ok(Command::Board(given)) => {
             answer(board::print_board(alloc, random, &given, folders, out))
         }

@@ -13,7 +13,10 @@
 //!   output failed;
 //! - 4: memory ran out, and neither a folder nor the output failed.
 //!
-//! `gtfs check DIR` prints what is wrong with the feed in a folder.
+//! `gtfs check DIR [--values] [--summary]` prints what is wrong with the feed in a folder, a line for
+//! each problem. With `--values` a line ends with the value that is wrong, in quotes and cut to 60
+//! characters. With `--summary` there is a line for the first problem of each code, file and column,
+//! which ends with how many of them there are.
 //!
 //! `gtfs board DIR --zone FILE --stop ID --from T --until T [--limit N] [--after KEY]
 //! [--interpolate]` prints the departures at a stop, in the order of their keys, a line each: at

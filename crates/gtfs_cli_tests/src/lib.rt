@@ -7,9 +7,13 @@
 #![tactic(auto)]
 
 #[cfg(test)]
+mod advised;
+#[cfg(test)]
 mod assertions;
 #[cfg(test)]
 mod boards;
+#[cfg(test)]
+mod checks;
 #[cfg(test)]
 mod cutoff;
 #[cfg(test)]

@@ -2,14 +2,20 @@
 use Rattle.std.proofs.Common.{◌≡◌, ◌∙◌, List, Option, Some, None, ap, sym}
 use Rattle.std.specs.Prelude.{unwrap_or}
 use Rattle.clap.specs.Words.{Row, Text}
-use Rattle.gtfs_commands.specs.Asked.{AsksBoardOf, AsksBoardsOf, AsksCheckOf, AsksMergeOf, AsksServeOf, AsksTimetableOf, BoardTexts, BoardsTexts, ForBoard, ForBoards, ForCheck, ForMerge, ForServe, ForTimetable, MergeTexts, ServeTexts, TimetableTexts}
+use Rattle.gtfs_commands.specs.Asked.{AsksBoardOf, AsksBoardsOf, AsksCheckOf, AsksMergeOf, AsksServeOf, AsksTimetableOf, BoardTexts, BoardsTexts, CheckTexts, ForBoard, ForBoards, ForCheck, ForMerge, ForServe, ForTimetable, MergeTexts, ServeTexts, TimetableTexts}
 
 same : (o : Option Text) (x y : Text) → o ≡ Some x → o ≡ Some y → x ≡ y
 same o x y is_x is_y = ap (λ p. unwrap_or p x) (sym is_x ∙ is_y)
 
-pub same_check : (found : Option (Text × List Row)) (a b : Text) → ForCheck found a → ForCheck found b → a ≡ b
+pub same_check : (found : Option (Text × List Row)) (a b : CheckTexts) → ForCheck found a → ForCheck found b → a ≡ b
 same_check None a b is_a is_b = absurd is_a
-same_check (Some found) a b is_a is_b = same _ a b is_a.1 is_b.1
+same_check (Some found) a b is_a is_b =
+    let dir : a.dir ≡ b.dir = same _ a.dir b.dir is_a.1.dir is_b.1.dir in
+    let values : a.values ≡ b.values = sym is_a.1.values ∙ is_b.1.values in
+    let summary : a.summary ≡ b.summary = sym is_a.1.summary ∙ is_b.1.summary in
+    let advise : a.advise ≡ b.advise = sym is_a.1.advise ∙ is_b.1.advise in
+    let day : a.day ≡ b.day = sym is_a.1.day ∙ is_b.1.day in
+    λ i. record { dir = dir i; values = values i; summary = summary i; advise = advise i; day = day i }
 
 pub same_board : (found : Option (Text × List Row)) (a b : BoardTexts) → ForBoard found a → ForBoard found b → a ≡ b
 same_board None a b is_a is_b = absurd is_a
@@ -70,7 +76,7 @@ same_merge (Some found) a b is_a is_b =
     let cutoff : a.cutoff ≡ b.cutoff = sym is_a.1.cutoff ∙ is_b.1.cutoff in
     λ i. record { a = first i; b = second i; out = out i; near = near i; cutoff = cutoff i }
 
-pub one_check : (words : List Text) (a b : Text) → AsksCheckOf words a → AsksCheckOf words b → a ≡ b
+pub one_check : (words : List Text) (a b : CheckTexts) → AsksCheckOf words a → AsksCheckOf words b → a ≡ b
 one_check words a b is_a is_b = same_check _ a b is_a.asks is_b.asks
 
 pub one_board : (words : List Text) (a b : BoardTexts) → AsksBoardOf words a → AsksBoardOf words b → a ≡ b

@@ -7,6 +7,7 @@ use Rattle.clap.specs.declared.parser.matches.ValueSource.TheVariants as source
 use Rattle.gtfs_commands.specs.CommandLine.{gtfs_app}
 use Rattle.gtfs_commands.specs.declared.command.BoardTexts.{BoardTexts as LentBoardTexts}
 use Rattle.gtfs_commands.specs.declared.command.BoardsTexts.{BoardsTexts as LentBoardsTexts}
+use Rattle.gtfs_commands.specs.declared.command.CheckTexts.{CheckTexts as LentCheckTexts}
 use Rattle.gtfs_commands.specs.declared.command.Command.{Command}
 use Rattle.gtfs_commands.specs.declared.command.Command.TheVariants.{Board, Boards, Check, Merge, Serve, Timetable}
 use Rattle.gtfs_commands.specs.declared.command.MergeTexts.{MergeTexts as LentMergeTexts}
@@ -14,6 +15,14 @@ use Rattle.gtfs_commands.specs.declared.command.ServeTexts.{ServeTexts as LentSe
 use Rattle.gtfs_commands.specs.declared.command.TimetableTexts.{TimetableTexts as LentTimetableTexts}
 
 -- ---- the texts of each command, as they stand in the words
+
+-- what is given to `check`; a day may be missing, and the others say whether their flags are given
+pub record CheckTexts : Type 0 where
+  pub dir : Text
+  pub values : Bool
+  pub summary : Bool
+  pub advise : Bool
+  pub day : Option Text
 
 -- what is given to `board`; a limit and a key may be missing, and the last says whether its flag is given
 pub record BoardTexts : Type 0 where
@@ -54,6 +63,15 @@ pub record MergeTexts : Type 0 where
   pub out : Text
   pub near : Option Text
   pub cutoff : Option Text
+
+abbrev pub check_texts_of : LentCheckTexts → CheckTexts
+check_texts_of words = record {
+  dir = words.dir.now;
+  values = words.values;
+  summary = words.summary;
+  advise = words.advise;
+  day = option_map (λ text. text.now) words.day;
+}
 
 abbrev pub texts_of : LentBoardTexts → BoardTexts
 texts_of words = record {
@@ -107,9 +125,13 @@ is_from_words _ = false
 abbrev pub is_flagged : Text → List Row → Bool
 is_flagged id given = is_from_words (option_and_then (λ r. r.source) (find (λ r. bytes_eq r.id id) given))
 
--- this is the text that was given for the folder
-abbrev pub GivesCheck : List Row → Text → Type 0
-GivesCheck given dir = first_of (codes "DIR") given ≡ Some dir
+-- each is the text that was given for it, and None where none was given; the flags are told as they were given
+pub record GivesCheck (given : List Row) (asked : CheckTexts) : Type 0 where
+  pub dir : first_of (codes "DIR") given ≡ Some asked.dir
+  pub values : is_flagged (codes "values") given ≡ asked.values
+  pub summary : is_flagged (codes "summary") given ≡ asked.summary
+  pub advise : is_flagged (codes "advise") given ≡ asked.advise
+  pub day : first_of (codes "day") given ≡ asked.day
 
 -- each is the text that was given for it, and None where none was given; the flag is told as it was given
 pub record GivesBoard (given : List Row) (asked : BoardTexts) : Type 0 where
@@ -153,10 +175,10 @@ pub record GivesMerge (given : List Row) (asked : MergeTexts) : Type 0 where
 
 -- ---- the command that is asked for
 
--- a subcommand is named, with what was given for each of its ids: it is the check of this folder
-abbrev pub ForCheck : Option (Text × List Row) → Text → Type 0
-ForCheck None dir = ⊥
-ForCheck (Some found) dir = (found.0 ≡ codes "check") × GivesCheck found.1 dir
+-- a subcommand is named, with what was given for each of its ids: it is the check of these texts
+abbrev pub ForCheck : Option (Text × List Row) → CheckTexts → Type 0
+ForCheck None asked = ⊥
+ForCheck (Some found) asked = (found.0 ≡ codes "check") × GivesCheck found.1 asked
 
 -- it is the board of these texts
 abbrev pub ForBoard : Option (Text × List Row) → BoardTexts → Type 0
@@ -186,17 +208,17 @@ ForMerge (Some found) asked = (found.0 ≡ codes "merge") × GivesMerge found.1 
 -- it is this command
 abbrev pub IsCommandOf : Option (Text × List Row) → Command → Type 0
 IsCommandOf None command = ⊥
-IsCommandOf (Some found) (Check dir) = (found.0 ≡ codes "check") × GivesCheck found.1 dir.now
+IsCommandOf (Some found) (Check words) = (found.0 ≡ codes "check") × GivesCheck found.1 (check_texts_of words)
 IsCommandOf (Some found) (Board words) = (found.0 ≡ codes "board") × GivesBoard found.1 (texts_of words)
 IsCommandOf (Some found) (Boards words) = (found.0 ≡ codes "boards") × GivesBoards found.1 (boards_texts_of words)
 IsCommandOf (Some found) (Serve words) = (found.0 ≡ codes "serve") × GivesServe found.1 (serve_texts_of words)
 IsCommandOf (Some found) (Timetable words) = (found.0 ≡ codes "timetable") × GivesTimetable found.1 (timetable_texts_of words)
 IsCommandOf (Some found) (Merge words) = (found.0 ≡ codes "merge") × GivesMerge found.1 (merge_texts_of words)
 
--- `clap` takes the words, and they ask for the check of the feed in this folder
-pub record AsksCheckOf (words : List Text) (dir : Text) : Type 0 where
+-- `clap` takes the words, and they ask for the check of these texts
+pub record AsksCheckOf (words : List Text) (asked : CheckTexts) : Type 0 where
   pub taken : takes gtfs_app words ≡ true
-  pub asks : ForCheck (subcommand_of gtfs_app words) dir
+  pub asks : ForCheck (subcommand_of gtfs_app words) asked
 
 -- `clap` takes the words, and they ask for the board of these texts
 pub record AsksBoardOf (words : List Text) (asked : BoardTexts) : Type 0 where

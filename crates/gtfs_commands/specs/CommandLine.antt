@@ -23,9 +23,10 @@ choice_rule id = record (text_rule id) { long = Some id; value_names = 1 }
 abbrev pub flag_rule : Text → Rule
 flag_rule id = record (new_rule id) { long = Some id; action = Some SetTrue }
 
--- `check DIR`
+-- `check DIR [--values] [--summary] [--advise] [--day D]`
 abbrev pub check_app : App
-check_app = with_rule (new_app (codes "check")) (word_rule (codes "DIR"))
+check_app = with_rule (with_rule (with_rule (with_rule (with_rule (new_app (codes "check")) (word_rule (codes "DIR")))
+    (flag_rule (codes "values"))) (flag_rule (codes "summary"))) (flag_rule (codes "advise"))) (choice_rule (codes "day"))
 
 -- what `board` needs: `board DIR --zone FILE --stop ID --from T --until T`
 abbrev pub needed_board_app : App

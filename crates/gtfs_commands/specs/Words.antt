@@ -5,7 +5,7 @@
 
 -- the program with its six commands
 pub use Rattle.gtfs_commands.specs.CommandLine.{gtfs_app}
--- `check` and its folder
+-- `check`, its folder and its options
 pub use Rattle.gtfs_commands.specs.CommandLine.{check_app}
 -- `board`, its folder and its options
 pub use Rattle.gtfs_commands.specs.CommandLine.{board_app}
@@ -21,7 +21,11 @@ pub use Rattle.gtfs_commands.specs.CommandLine.{merge_app}
 
 -- words that `clap` takes ask for this command, with its texts
 pub use Rattle.gtfs_commands.specs.Asked.{IsCommandOf}
--- the folder that was given to `check`
+-- the texts of `check`, of which a day may be missing, and its flags
+pub use Rattle.gtfs_commands.specs.Asked.{CheckTexts}
+-- the same of the command that the code has
+pub use Rattle.gtfs_commands.specs.Asked.{check_texts_of}
+-- each of them is the text that was given for it
 pub use Rattle.gtfs_commands.specs.Asked.{GivesCheck}
 -- the texts of `board`: a limit and a key may be missing, and a flag says whether times are filled
 pub use Rattle.gtfs_commands.specs.Asked.{BoardTexts}
@@ -55,7 +59,7 @@ pub use Rattle.gtfs_commands.specs.Asked.{merge_texts_of}
 pub use Rattle.gtfs_commands.specs.Asked.{GivesMerge}
 -- ---- `words_ask_for_one`: which words ask for which command
 
--- `clap` takes the words, and they ask for a check of this folder
+-- `clap` takes the words, and they ask for the check of these texts
 pub use Rattle.gtfs_commands.specs.Asked.{AsksCheckOf}
 -- the same of the board of these texts
 pub use Rattle.gtfs_commands.specs.Asked.{AsksBoardOf}

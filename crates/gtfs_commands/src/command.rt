@@ -4,7 +4,7 @@
 #[derive(Clone, Copy)]
 pub enum Command<'w> {
     /// `gtfs check`: what is wrong with the feed in this folder.
-    Check(&'w str),
+    Check(CheckTexts<'w>),
     /// `gtfs board`: the departures at a stop.
     Board(BoardTexts<'w>),
     /// `gtfs boards`: the departures that each line of a file asks for.
@@ -15,6 +15,22 @@ pub enum Command<'w> {
     Timetable(TimetableTexts<'w>),
     /// `gtfs merge`: one feed of two.
     Merge(MergeTexts<'w>),
+}
+
+/// What was given to `gtfs check`:
+/// each text as it stands in the words, and whether each flag stands there.
+#[derive(Clone, Copy)]
+pub struct CheckTexts<'w> {
+    /// The folder of the feed.
+    pub dir: &'w str,
+    /// Whether the line of a problem has the value that is wrong.
+    pub values: bool,
+    /// Whether problems that are alike have one line, with their number.
+    pub summary: bool,
+    /// Whether a feed without errors gets advice.
+    pub advise: bool,
+    /// The service day from which on there is to be service, if one was said.
+    pub day: Option<&'w str>,
 }
 
 /// What was given to `gtfs board`:

@@ -30,7 +30,7 @@ const ABOUT: &str =
 
 // How all are called, a line each. Help has `Usage:
 // ` before the first, and the others stand below it.
-const COMMANDS: &str = "gtfs check DIR\n       \
+const COMMANDS: &str = "gtfs check DIR [--values] [--summary] [--advise] [--day D]\n       \
     gtfs board DIR --zone FILE --stop ID --from T --until T [--limit N] [--after KEY] [--interpolate]\n       \
     gtfs boards DIR --zone FILE --requests FILE [--interpolate]\n       \
     gtfs serve DIR --zone FILE [--interpolate]\n       \

@@ -1,7 +1,7 @@
 //! What the words of the command line of `gtfs` ask for, read by `clap`.
 //!
 //! ```text
-//! gtfs check DIR
+//! gtfs check DIR [--values] [--summary] [--advise] [--day D]
 //! gtfs board DIR --zone FILE --stop ID --from T --until T [--limit N] [--after KEY] [--interpolate]
 //! gtfs boards DIR --zone FILE --requests FILE [--interpolate]
 //! gtfs serve DIR --zone FILE [--interpolate]
@@ -15,7 +15,7 @@
 //! `--version` for the version of the program.
 //!
 //! ```text
-//! let Ok(Command::Check(dir)) = read_words(rt.alloc(), &["gtfs", "check", "f1"]) else {
+//! let Ok(Command::Check(texts)) = read_words(rt.alloc(), &["gtfs", "check", "f1"]) else {
 //!     return Err("no check".into());
 //! };
 //! ```
@@ -27,7 +27,9 @@ mod fault;
 mod law;
 mod read;
 
-pub use command::{BoardTexts, BoardsTexts, Command, MergeTexts, ServeTexts, TimetableTexts};
+pub use command::{
+    BoardTexts, BoardsTexts, CheckTexts, Command, MergeTexts, ServeTexts, TimetableTexts,
+};
 pub use fault::WordsFault;
 pub use law::words_ask_for_one;
 pub use read::read_words;

@@ -1,11 +1,13 @@
 //! From the words to the command.
 ghost use Rattle.std.specs.Prelude.{◌≡◌, map, Some, option_map, true, IfOk, IfErr, IfSome, IsSome};
 ghost use Rattle.clap.specs.Words.{first_of, found_of, rows_of, subcommand_of, subcommand_rows_of, takes};
-ghost use Rattle.gtfs_commands.specs.Asked.{boards_texts_of, is_flagged, is_from_words, merge_texts_of, serve_texts_of, texts_of, timetable_texts_of, HasBoard, HasBoards, HasMerge, HasServe, HasTimetable, GivesBoard, GivesBoards, IsCommandOf, GivesMerge, GivesServe, GivesTimetable, IsWhole};
+ghost use Rattle.gtfs_commands.specs.Asked.{boards_texts_of, check_texts_of, is_flagged, is_from_words, merge_texts_of, serve_texts_of, texts_of, timetable_texts_of, HasBoard, HasBoards, HasCheck, HasMerge, HasServe, HasTimetable, GivesBoard, GivesBoards, GivesCheck, IsCommandOf, GivesMerge, GivesServe, GivesTimetable, IsWhole};
 ghost use Rattle.gtfs_commands.specs.CommandLine.{gtfs_app};
 ghost use Rattle.gtfs_commands.specs.Untaken.{no_memory, IsFaultOf};
 
-use crate::command::{BoardTexts, BoardsTexts, Command, MergeTexts, ServeTexts, TimetableTexts};
+use crate::command::{
+    BoardTexts, BoardsTexts, CheckTexts, Command, MergeTexts, ServeTexts, TimetableTexts,
+};
 use crate::definitions::gtfs;
 use crate::fault::{WordsFault, fault_of};
 use clap::ArgMatches;
@@ -47,7 +49,7 @@ fn command_named<'w>(name: &str, given: &ArgMatches<'w>) -> Option<Command<'w>>
     ensures given { IsWhole (Some (name.now, rows_of (found_of given.now))) → IsSome result }
 {
     match name {
-        "check" => Some(Command::Check(given_text(given, "DIR")?)),
+        "check" => Some(Command::Check(check_words(given)?)),
         "board" => Some(Command::Board(board_words(given)?)),
         "boards" => Some(Command::Boards(boards_words(given)?)),
         "serve" => Some(Command::Serve(serve_words(given)?)),
@@ -55,6 +57,20 @@ fn command_named<'w>(name: &str, given: &ArgMatches<'w>) -> Option<Command<'w>>
         "merge" => Some(Command::Merge(merge_words(given)?)),
         _ => None,
     }
+}
+
+fn check_words<'w>(given: &ArgMatches<'w>) -> Option<CheckTexts<'w>>
+    ensures value { IfSome result (λ words. GivesCheck (rows_of (found_of given.now))
+        (check_texts_of words)) }
+    ensures given { HasCheck (rows_of (found_of given.now)) → IsSome result }
+{
+    Some(CheckTexts {
+        dir: given_text(given, "DIR")?,
+        values: is_flagged(given, "values"),
+        summary: is_flagged(given, "summary"),
+        advise: is_flagged(given, "advise"),
+        day: given_text(given, "day"),
+    })
 }
 
 fn board_words<'w>(given: &ArgMatches<'w>) -> Option<BoardTexts<'w>>

@@ -4,15 +4,26 @@ use Rattle.std.proofs.Common.{refl}
 use Rattle.clap.specs.Words.{Text, fault_of, takes}
 use Rattle.clap.specs.declared.error.kind.ErrorKind.TheVariants as kind
 use Rattle.clap.proofs.OnLiterals.{clap_on_literals}
-use Rattle.gtfs_commands.specs.Words.{gtfs_app, AreForHelp, AreForVersion, AreRefused, AsksBoardOf, AsksBoardsOf, AsksCheckOf, AsksMergeOf, AsksServeOf, AsksTimetableOf, BoardTexts, BoardsTexts, MergeTexts, ServeTexts, TimetableTexts}
+use Rattle.gtfs_commands.specs.Words.{gtfs_app, AreForHelp, AreForVersion, AreRefused, AsksBoardOf, AsksBoardsOf, AsksCheckOf, AsksMergeOf, AsksServeOf, AsksTimetableOf, BoardTexts, BoardsTexts, CheckTexts, MergeTexts, ServeTexts, TimetableTexts}
 
 -- a check
 abbrev check_words : List Text
 check_words = codes "gtfs" ∷ codes "check" ∷ codes "f1" ∷ []
 
-check_asked : AsksCheckOf check_words (codes "f1")
+abbrev check_texts : CheckTexts
+check_texts = record { dir = codes "f1"; values = false; summary = false; advise = false; day = None }
+
+check_asked : AsksCheckOf check_words check_texts
 unfolding clap_on_literals
-check_asked = record { taken = refl; asks = (refl, refl) }
+check_asked = record { taken = refl; asks = (refl, record { dir = refl; values = refl; summary = refl; advise = refl; day = refl }) }
+
+-- one with all its options
+abbrev full_check_words : List Text
+full_check_words = codes "gtfs" ∷ codes "check" ∷ codes "--advise" ∷ codes "f1" ∷ codes "--day=20240401" ∷ codes "--values" ∷ codes "--summary" ∷ []
+
+full_check_asked : AsksCheckOf full_check_words (record { dir = codes "f1"; values = true; summary = true; advise = true; day = Some (codes "20240401") })
+unfolding clap_on_literals
+full_check_asked = record { taken = refl; asks = (refl, record { dir = refl; values = refl; summary = refl; advise = refl; day = refl }) }
 
 -- a board with all its options, but for the flag
 abbrev board_words : List Text

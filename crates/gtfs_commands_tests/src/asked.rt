@@ -6,10 +6,65 @@ use std::test::Fail;
 
 #[test]
 fn check_has_its_folder(rt: HostRuntime) -> Result<(), Fail> {
-    let Ok(Command::Check(dir)) = read_words(rt.alloc(), &["gtfs", "check", "f1"]) else {
+    let Ok(Command::Check(texts)) = read_words(rt.alloc(), &["gtfs", "check", "f1"]) else {
         return Err("no check".into());
     };
-    assert_equal(&rt, dir, "f1");
+    assert_equal(&rt, texts.dir, "f1");
+    let flags = (texts.values, texts.summary, texts.advise);
+    assert_equal(&rt, flags, (false, false, false));
+    assert_equal(&rt, texts.day, None);
+    Ok(())
+}
+
+// Words of a check, and which of its flags they have.
+const CHECKS: &[(&[&str], (bool, bool, bool), Option<&str>)] = &[
+    (
+        &["gtfs", "check", "f1", "--values"],
+        (true, false, false),
+        None,
+    ),
+    (
+        &["gtfs", "check", "--summary", "f1"],
+        (false, true, false),
+        None,
+    ),
+    (
+        &["gtfs", "check", "f1", "--advise"],
+        (false, false, true),
+        None,
+    ),
+    (
+        &["gtfs", "check", "f1", "--day", "20240401"],
+        (false, false, false),
+        Some("20240401"),
+    ),
+    (
+        &[
+            "gtfs",
+            "check",
+            "--day=",
+            "--summary",
+            "--advise",
+            "--values",
+            "--",
+            "f1",
+        ],
+        (true, true, true),
+        Some(""),
+    ),
+];
+
+#[test]
+fn check_has_its_options_in_each_order(rt: HostRuntime) -> Result<(), Fail> {
+    for &(words, flags, day) in CHECKS {
+        let Ok(Command::Check(texts)) = read_words(rt.alloc(), words) else {
+            return Err("no check".into());
+        };
+        assert_equal_at(&rt, words, texts.dir, "f1");
+        let found = (texts.values, texts.summary, texts.advise);
+        assert_equal_at(&rt, words, found, flags);
+        assert_equal_at(&rt, words, texts.day, day);
+    }
     Ok(())
 }
 

@@ -2,7 +2,7 @@
 use Rattle.std.proofs.Common.{◌≡◌, ◌≤◌, Bool, true, false, sym, arith, nat_le, true≢false}
 use Rattle.std.specs.Prelude.{◌&&◌}
 use Rattle.std.proofs.lemmas.Bool.{and_parts, leb-true, le-leb}
-use Rattle.gtfs_nearby.specs.Areas.{covers, has, meets, widened}
+use Rattle.gtfs_nearby.specs.Areas.{area_joined, area_of, covers, has, meets}
 use Rattle.gtfs_nearby.specs.declared.area.Area.{Area}
 use Rattle.gtfs_nearby.specs.declared.place.Place.{Place}
 
@@ -46,10 +46,15 @@ covered a b p e f =
       east = omega (arith, leb-true b.east a.east x.1, j.east);
     })
 
-pub widened-keeps : (a : Area) (q p : Place) → has a p ≡ true → has (widened a q) p ≡ true
-widened-keeps a q p e =
+pub joined-has_first : (a b : Area) (p : Place) → has a p ≡ true → has (area_joined a b) p ≡ true
+joined-has_first a b p e =
     let i = inside a p e in
-    has-inside (widened a q) p (record { south = omega (arith, i.south); north = omega (arith, i.north); west = omega (arith, i.west); east = omega (arith, i.east) })
+    has-inside (area_joined a b) p (record { south = omega (arith, i.south); north = omega (arith, i.north); west = omega (arith, i.west); east = omega (arith, i.east) })
 
-pub widened-has : (a : Area) (q : Place) → has (widened a q) q ≡ true
-widened-has a q = has-inside (widened a q) q (record { south = omega arith; north = omega arith; west = omega arith; east = omega arith })
+pub joined-has_second : (a b : Area) (p : Place) → has b p ≡ true → has (area_joined a b) p ≡ true
+joined-has_second a b p e =
+    let i = inside b p e in
+    has-inside (area_joined a b) p (record { south = omega (arith, i.south); north = omega (arith, i.north); west = omega (arith, i.west); east = omega (arith, i.east) })
+
+pub area_of-has : (p : Place) → has (area_of p) p ≡ true
+area_of-has p = has-inside (area_of p) p (record { south = omega arith; north = omega arith; west = omega arith; east = omega arith })

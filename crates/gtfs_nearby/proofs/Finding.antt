@@ -13,7 +13,7 @@ use Rattle.gtfs_nearby.specs.Index.{IsIndex, IsRun}
 use Rattle.gtfs_nearby.specs.Near.{is_near_row}
 use Rattle.gtfs_nearby.specs.Places.{IsPlace, has_place}
 use Rattle.gtfs_nearby.specs.Search.{IsLeastOfRun}
-use Rattle.gtfs_nearby.specs.declared.block.Block.{Block}
+use Rattle.gtfs_nearby.specs.declared.tree.Node.{Node}
 use Rattle.gtfs_nearby.specs.declared.listed.Listed.{Listed}
 use Rattle.gtfs_nearby.specs.declared.place.Place.{Place}
 use Rattle.gtfs_nearby.specs.declared.run.Run.{Run}
@@ -60,7 +60,7 @@ childless n stops y has = none-is (is_near_row n y None) stops (λ k d h. no_tes
 
 -- ---- what a search found
 
-module _ (n : ℕ) (stops : List Stop) (xs : List Listed) (bs : List Block) (index : IsIndex stops xs bs) (y : Stop) (became parent : Option ℕ) (parents : IsParent y became parent)
+module _ (n : ℕ) (stops : List Stop) (xs : List Listed) (ns : List Node) (index : IsIndex stops xs ns) (y : Stop) (became parent : Option ℕ) (parents : IsParent y became parent)
     (p : Place) (place : IsPlace y parent p) (run : Run) (is_run : IsRun xs p run) (least : ℕ) (is_least : IsLeastOfRun (area_around p (n * 1000)) xs run (length stops) least) where
   at-least : least < length stops → (d : Stop) → is_near_row n y became (get_or stops least d) ≡ true
   at-least found d =

@@ -1,14 +1,15 @@
 -- All stops with a place, listed one by one.
-use Rattle.std.proofs.Common.{◌≡◌, ◌≤◌, ◌<◌, ◌+◌, ◌∙◌, ◌++◌, ◌∷◌, [], ◌⊎◌, inl, inr, ℕ, true, false, List, sym, ap, subst, arith, length, get_or, true≢false}
+use Rattle.std.proofs.Common.{◌≡◌, ◌≤◌, ◌<◌, ◌+◌, ◌∙◌, ◌++◌, ◌∷◌, [], ◌⊎◌, inl, inr, ℕ, ◌≢◌, true, false, List, sym, ap, subst, arith, length, get_or, true≢false}
 use Rattle.std.specs.Prelude.{option_map}
 use Rattle.std.specs.List.{Any, All}
 use Rattle.std.specs.List.Sorted.{IsPermutation}
-use Rattle.std.proofs.lemmas.List.{get_or_append_left, get_or_default, length-append}
-use Rattle.std.proofs.lemmas.List.Elements.{All-push}
+use Rattle.std.proofs.lemmas.List.{get_or-set_other, get_or-set_same, get_or_append_left, get_or_default, length-append, length-set}
+use Rattle.std.proofs.Math.ListN.{set}
+use Rattle.std.proofs.lemmas.List.Elements.{All-push, All-set}
 use Rattle.std.proofs.lemmas.List.Quantifiers.{Any-push}
 use Rattle.std.proofs.lemmas.List.Sorted.{All-permutation, Contains-permutation}
 use Rattle.gtfs_rows.specs.declared.stop.Stop.{Stop}
-use Rattle.gtfs_nearby.specs.Index.{AreListed, IsListed}
+use Rattle.gtfs_nearby.specs.Index.{AreListed, AreStillListed, IsListed}
 use Rattle.gtfs_nearby.specs.Places.{IsPlace, has_place}
 use Rattle.gtfs_nearby.specs.declared.listed.Listed.{Listed}
 
@@ -61,3 +62,35 @@ listed-moved stops xs ys moved are = record {
       let there = Contains-permutation xs ys it.1 moved (it.0, it.2, it.3) in
       (there.0, it.1, there.1, there.2, it.4);
 }
+
+-- ---- another order of a listed stop
+
+pub still_listed-moved : (xs ys : List Listed) → IsPermutation xs ys → AreStillListed xs ys
+still_listed-moved xs ys moved stops are = listed-moved stops xs ys moved are
+
+pub still_listed-ordered : (xs ys zs : List Listed) (n : ℕ) (d x : Listed) → n < length ys → x.number ≡ (get_or ys n d).number → x.place ≡ (get_or ys n d).place → zs ≡ set ys n x → AreStillListed xs ys → AreStillListed xs zs
+still_listed-ordered xs ys zs n d x within number place written still stops are = subst (AreListed stops) (sym written) (record {
+  listed = All-set (IsListed stops) ys n x (record {
+    within = let old = before.listed n d within in subst (λ m. m < length stops) (sym number) old.within;
+    place = λ e.
+        let old = before.listed n d within in
+        subst (λ p. IsPlace (get_or stops x.number e) (option_map (λ m. m.0) (get_or stops x.number e).parent_station) p) (sym place)
+        (subst (λ j. IsPlace (get_or stops j e) (option_map (λ m. m.0) (get_or stops j e).parent_station) (get_or ys n d).place) (sym number) (old.place e));
+  }) before.listed;
+  all = λ k e h has_it. let it = before.all k e h has_it in elim (same_or_not it.0) as (λ w. Any (λ y. y.number ≡ k) (set ys n x)) [
+    | inl same ↦ (
+      n,
+      x,
+      omega (arith, within, length-set ys n x),
+      get_or-set_same ys n x x within,
+      number ∙ ap (λ y. y.number) (get_or_default ys n d it.1 within ∙ ap (λ j. get_or ys j it.1) (sym same) ∙ it.3) ∙ it.4,
+    )
+    | inr other ↦ (it.0, it.1, omega (arith, it.2, length-set ys n x), get_or-set_other ys n it.0 x it.1 other ∙ it.3, it.4)
+  ];
+})
+  where
+    before : AreListed stops ys
+    before = still stops are
+
+    same_or_not : (k : ℕ) → (k ≡ n) ⊎ (k ≢ n)
+    same_or_not k = grind arith

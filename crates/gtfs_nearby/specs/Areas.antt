@@ -10,9 +10,9 @@ area_around p reach = record { south = p.lat - reach; north = p.lat + reach; wes
 abbrev pub area_of : Place → Area
 area_of p = record { south = p.lat; north = p.lat; west = p.lon; east = p.lon }
 
--- the least area with one more place
-abbrev pub widened : Area → Place → Area
-widened a p = record { south = min a.south p.lat; north = max a.north p.lat; west = min a.west p.lon; east = max a.east p.lon }
+-- the least area that has both
+abbrev pub area_joined : Area → Area → Area
+area_joined a b = record { south = min a.south b.south; north = max a.north b.north; west = min a.west b.west; east = max a.east b.east }
 
 abbrev pub has : Area → Place → Bool
 has a p = nat_le a.south p.lat && nat_le p.lat a.north && nat_le a.west p.lon && nat_le p.lon a.east

@@ -1,5 +1,5 @@
 ghost use Rattle.std.specs.Prelude.{◌≡◌, ◌≤◌, ◌+◌, ◌*◌};
-ghost use Rattle.gtfs_nearby.specs.Areas.{area_around, area_of, covers, has, meets, widened};
+ghost use Rattle.gtfs_nearby.specs.Areas.{area_around, area_joined, area_of, covers, has, meets};
 
 use crate::place::Place;
 
@@ -40,15 +40,15 @@ impl Area {
         }
     }
 
-    // The least area that has one more place.
-    pub fn widened(&self, place: &Place<'_>) -> Area
-        ensures { result ≡ widened self.now place.now }
+    // The least area that has both.
+    pub fn joined(&self, other: &Area) -> Area
+        ensures { result ≡ area_joined self.now other.now }
     {
         Area {
-            south: self.south.min(place.lat),
-            north: self.north.max(place.lat),
-            west: self.west.min(place.lon),
-            east: self.east.max(place.lon),
+            south: self.south.min(other.south),
+            north: self.north.max(other.north),
+            west: self.west.min(other.west),
+            east: self.east.max(other.east),
         }
     }
 

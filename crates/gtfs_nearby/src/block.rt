@@ -1,13 +1,9 @@
-ghost use Rattle.std.specs.Prelude.{◌≡◌, ◌<◌, IfOk, length};
-ghost use Rattle.gtfs_nearby.specs.Index.{AreBlocks, IsBlock, block_of_one, block_with};
+ghost use Rattle.std.specs.Prelude.{◌≡◌, ◌<◌, ◌≤◌, length};
+ghost use Rattle.gtfs_nearby.specs.Index.{IsBlock, block_joined, block_of_one};
 
 use crate::area::Area;
 use crate::listed::Listed;
-use gtfs_field::OutOfMemory;
-use std::alloc::Global;
-
-// How many listed stops a block has; the last one may have fewer.
-pub(crate) const BLOCK: usize = 256;
+use crate::run::Run;
 
 // What a search asks of stops that are listed one after the other:
 // where they are, and the least of their numbers.
@@ -18,13 +14,14 @@ pub(crate) struct Block {
 }
 
 impl Block {
-    fn of(listed: &[Listed<'_>]) -> Block
-        requires { 0 < length listed.now }
-        ensures { IsBlock listed.now result }
+    pub fn of(listed: &[Listed<'_>], stops: Run) -> Block
+        requires some { stops.from < stops.until }
+        requires within { stops.until ≤ length listed.now }
+        ensures { IsBlock listed.now stops result }
     {
-        let mut block = Block::of_one(&listed[0]);
-        for one in listed {
-            block = block.with(one);
+        let mut block = Block::of_one(&listed[stops.from]);
+        for number in stops.from + 1..stops.until {
+            block = block.joined(&Block::of_one(&listed[number]));
         }
         block
     }
@@ -38,26 +35,13 @@ impl Block {
         }
     }
 
-    fn with(&self, listed: &Listed<'_>) -> Block
-        ensures { result ≡ block_with self.now listed.now }
+    // The block of the stops of both.
+    pub fn joined(&self, other: &Block) -> Block
+        ensures { result ≡ block_joined self.now other.now }
     {
         Block {
-            area: self.area.widened(&listed.place),
-            least: self.least.min(listed.number),
+            area: self.area.joined(&other.area),
+            least: self.least.min(other.least),
         }
     }
-}
-
-// The blocks of listed stops, one after the other.
-pub(crate) fn blocks(alloc: Global, listed: &[Listed<'_>]) -> Result<Vec<Block>, OutOfMemory>
-    ensures { IfOk result (λ blocks. AreBlocks listed.now blocks.items) }
-{
-    let count = listed.len().div_ceil(BLOCK);
-    let mut blocks = Vec::with_capacity(alloc, count)?;
-    for number in 0..count {
-        let from = number * BLOCK;
-        let until = listed.len().min(from + BLOCK);
-        blocks.push(Block::of(&listed[from..until]))?;
-    }
-    Ok(blocks)
 }

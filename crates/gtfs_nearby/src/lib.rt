@@ -14,5 +14,6 @@ mod nearby;
 mod place;
 mod run;
 mod search;
+mod tree;
 
 pub use nearby::Nearby;

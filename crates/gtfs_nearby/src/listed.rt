@@ -1,6 +1,6 @@
 ghost use Rattle.std.specs.Prelude.{◌≡◌, IfOk};
 ghost use Rattle.std.specs.List.Sorted.{IsPermutation, IsSorted};
-ghost use Rattle.gtfs_nearby.specs.Index.{AreListed, listed_cmp};
+ghost use Rattle.gtfs_nearby.specs.Index.{AreListed, AreStillListed, listed_cmp};
 
 use crate::place::{Place, group_order};
 use gtfs_field::OutOfMemory;
@@ -12,8 +12,10 @@ use std::cmp::Ordering;
 #[derive(Clone, Copy)]
 pub(crate) struct Listed<'a> {
     pub place: Place<'a>,
-    // Rises along a curve on which neighbours mostly stand together.
-    // It makes searches fast, and no answer depends on it.
+    // Rises along a curve on which neighbours mostly stand together: the bits of the ranks by
+    // latitude and by longitude, in turn. With ranks in place of coordinates, the edge of an area
+    // runs through few leaves wherever stops lie: of n, about as many as the root of n at most.
+    // This makes searches fast, and no answer depends on it.
     pub order: u64,
     pub number: usize,
 }
@@ -26,7 +28,8 @@ pub(crate) fn listed_stops<'a>(
     ensures all { IfOk result (λ listed. AreListed stops.now listed.items) }
     ensures in_order { IfOk result (λ listed. IsSorted listed_cmp listed.items) }
 {
-    Ok(in_order(by_number(alloc, stops)?))
+    let listed = by_number(alloc, stops)?;
+    Ok(in_order(ranked_by_lon(ranked_by_lat(listed))))
 }
 
 // The same, by their numbers.
@@ -38,12 +41,43 @@ fn by_number<'a>(alloc: Global, stops: &'a [Stop]) -> Result<Vec<Listed<'a>>, Ou
         if let Some(place) = Place::of(stop, stop.parent_station) {
             listed.push(Listed {
                 place,
-                order: curve(place.lat, place.lon),
+                order: 0,
                 number,
             })?;
         }
     }
     Ok(listed)
+}
+
+// The same by latitude, with the bits of these ranks at every second place of the orders.
+fn ranked_by_lat(mut listed: Vec<Listed<'_>>) -> Vec<Listed<'_>>
+    ensures { AreStillListed listed.entry.items result.items }
+{
+    listed.sort_unstable_by(|a, b| by_lat(&a.place, &b.place));
+    for rank in 0..listed.len() {
+        listed[rank].order = spread(rank as u64) << 1;
+    }
+    listed
+}
+
+// The same by longitude, with the bits of these ranks in between.
+fn ranked_by_lon(mut listed: Vec<Listed<'_>>) -> Vec<Listed<'_>>
+    ensures { AreStillListed listed.entry.items result.items }
+{
+    listed.sort_unstable_by(|a, b| by_lon(&a.place, &b.place));
+    for rank in 0..listed.len() {
+        listed[rank].order |= spread(rank as u64);
+    }
+    listed
+}
+
+// Places on one latitude by longitude: the ranks of a line of stops rise together.
+fn by_lat(a: &Place<'_>, b: &Place<'_>) -> Ordering {
+    a.lat.cmp(&b.lat).then(a.lon.cmp(&b.lon))
+}
+
+fn by_lon(a: &Place<'_>, b: &Place<'_>) -> Ordering {
+    a.lon.cmp(&b.lon).then(a.lat.cmp(&b.lat))
 }
 
 fn in_order(mut listed: Vec<Listed<'_>>) -> Vec<Listed<'_>>
@@ -58,12 +92,6 @@ fn order(a: &Listed<'_>, b: &Listed<'_>) -> Ordering
     ensures { result ≡ listed_cmp a.now b.now }
 {
     group_order(&a.place, &b.place).then(a.order.cmp(&b.order))
-}
-
-// The bits of a latitude and a longitude, one after the other.
-// The lowest seven of each are left out, about a centimetre.
-fn curve(lat: u64, lon: u64) -> u64 {
-    (spread(lat >> 7) << 1) | spread(lon >> 7)
 }
 
 // The lowest 32 bits of a number, each at twice its place.

@@ -2,11 +2,11 @@ ghost use Rattle.std.specs.Prelude.{◌≡◌, IfOk, option_map, position};
 ghost use Rattle.gtfs_nearby.specs.Near.{is_near_row};
 
 use crate::area::Area;
-use crate::block::{Block, blocks};
 use crate::listed::{Listed, listed_stops};
 use crate::place::Place;
 use crate::run::Run;
 use crate::search::least_of_run;
+use crate::tree::{Node, tree_of};
 use gtfs_field::OutOfMemory;
 use gtfs_rows::{Stop, StopNo};
 use std::alloc::Global;
@@ -14,14 +14,15 @@ use std::marker::Model;
 
 /// The stops of a feed, by what near stops have in common and by their places.
 ///
-/// However many stops share a name, a search looks at few of them: they stand in blocks along a
-/// curve, and it passes over most blocks or takes them whole.
+/// However many stops share a name, a search looks at few of them: they stand along a curve, and
+/// a tree over it has the place and the least number of ever more of them. A search passes over
+/// most parts of the tree or takes them whole.
 #[derive(Drop)]
 pub struct Nearby<'a> {
     stops: &'a [Stop],
     near: u32,
     listed: Vec<Listed<'a>>,
-    blocks: Vec<Block>,
+    tree: Vec<Node>,
 }
 
 impl<'a> Model for Nearby<'a> {
@@ -32,12 +33,13 @@ impl<'a> Model for Nearby<'a> {
 
     ghost view = { λ n. record { stops = n.stops.now; near = n.near } };
 
-    ghost invariant = { λ n. IsIndex n.stops.now n.listed.items n.blocks.items };
+    ghost invariant = { λ n. IsIndex n.stops.now n.listed.items n.tree.items };
 }
 
 impl<'a> Nearby<'a> {
     /// A search among these stops, of which those up to `near` millionths of a degree away are
-    /// near. It borrows them, and takes 72 bytes for each and 40 for each 256.
+    /// near. It borrows them, and takes 72 bytes for each and less than 3 for its
+    /// part of the tree.
     ///
     /// # Errors
     /// `OutOfMemory` where memory ran out.
@@ -45,12 +47,12 @@ impl<'a> Nearby<'a> {
         ensures { IfOk result (λ n. n ≡ record { stops = stops.now; near = near }) }
     {
         let listed = listed_stops(alloc, stops)?;
-        let blocks = blocks(alloc, &listed)?;
+        let tree = tree_of(alloc, &listed)?;
         Ok(Nearby {
             stops,
             near,
             listed,
-            blocks,
+            tree,
         })
     }
 
@@ -75,7 +77,7 @@ impl<'a> Nearby<'a> {
         let run = Run::of(&self.listed, &place);
         let area = Area::around(&place, u64::from(self.near) * 1000);
         let count = self.stops.len();
-        let least = least_of_run(&self.listed, &self.blocks, run, &area, count);
+        let least = least_of_run(&self.listed, &self.tree, run, &area, count);
         (least < count).then_some(StopNo(least))
     }
 }

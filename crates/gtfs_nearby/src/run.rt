@@ -1,6 +1,6 @@
-ghost use Rattle.std.specs.Prelude.{◌≡◌, ◌<◌, length};
+ghost use Rattle.std.specs.Prelude.{◌≡◌, ◌-◌};
 ghost use Rattle.std.specs.List.Sorted.{IsSorted};
-ghost use Rattle.gtfs_nearby.specs.Index.{IsRun, listed_cmp};
+ghost use Rattle.gtfs_nearby.specs.Index.{IsRun, listed_cmp, shared};
 
 use crate::listed::Listed;
 use crate::place::{Place, group_order};
@@ -21,6 +21,22 @@ impl Run {
         Run {
             from: listed.partition_point(|one| group_order(&one.place, place).is_lt()),
             until: listed.partition_point(|one| group_order(&one.place, place).is_le()),
+        }
+    }
+
+    pub fn len(self) -> usize
+        ensures { result ≡ self.until - self.from }
+    {
+        self.until.saturating_sub(self.from)
+    }
+
+    // What is in both.
+    pub fn shared(self, other: Run) -> Run
+        ensures { result ≡ shared self other }
+    {
+        Run {
+            from: self.from.max(other.from),
+            until: self.until.min(other.until),
         }
     }
 }

@@ -1,10 +1,10 @@
 ghost use Rattle.std.specs.Prelude.{◌≡◌, option_map, IfOk, IfErr};
 ghost use Rattle.gtfs_commands.specs.Words.{merge_texts_of};
-ghost use Rattle.gtfs_cli.specs.MergeOptions.{cutoff_of, judged_merge, near_of, IsMergeRequest};
+ghost use Rattle.gtfs_cli.specs.MergeOptions.{judged_merge, near_of, IsMergeRequest};
 ghost use Rattle.gtfs_cli.specs.Judging.{IsFirstBad};
 ghost use Rattle.gtfs_cli.specs.MergeParts.{merge_request_of};
 
-use crate::commands::moments::read_service_day;
+use crate::commands::moments::read_day_if_given;
 use crate::commands::refusal::Refusal;
 use gtfs_commands::MergeTexts;
 use gtfs_field::{Day, read_count};
@@ -29,7 +29,7 @@ pub(super) fn read_merge_values<'w>(words: &MergeTexts<'w>) -> Result<MergeReque
     let Some(near) = read_near(words.near) else {
         return Err(Refusal::BadValue("--near"));
     };
-    let Some(cutoff) = read_cutoff(words.cutoff) else {
+    let Some(cutoff) = read_day_if_given(words.cutoff) else {
         return Err(Refusal::BadValue("--cutoff"));
     };
     Ok(MergeRequest { near, cutoff })
@@ -44,19 +44,6 @@ fn read_near(text: Option<&str>) -> Option<Option<u32>>
         Some(text) => match read_count(text) {
             Ok(count) => Some(Some(count)),
             Err(_) => None,
-        },
-    }
-}
-
-// Reads the value of `--cutoff`, a service day. None where it is not.
-fn read_cutoff(text: Option<&str>) -> Option<Option<Day>>
-    ensures { result ≡ cutoff_of (option_map (λ t. t.now) text.entry) }
-{
-    match text {
-        None => Some(None),
-        Some(text) => match read_service_day(text) {
-            Some(day) => Some(Some(day)),
-            None => None,
         },
     }
 }

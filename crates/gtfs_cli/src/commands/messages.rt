@@ -42,6 +42,7 @@ impl Refusal<'_> {
         match self {
             Refusal::Words(_) | Refusal::Line(_) => ("", ""),
             Refusal::BadValue(option) => ("bad value of ", option),
+            Refusal::DayWithoutAdvice => ("--day needs --advise", ""),
             Refusal::NotThere(path) => (path, " is not there"),
             Refusal::Unreadable(path) => (path, " cannot be read"),
             Refusal::OverLimit(path) => (path, " holds a file over the limit"),

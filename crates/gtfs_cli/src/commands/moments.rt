@@ -1,7 +1,7 @@
 ghost use Rattle.std.specs.Prelude.{◌≡◌, ◌<◌, ◌^◌, option_map, unsigned_abs, IfOk, IfSome};
 ghost use Rattle.gtfs_field.specs.Kinds.{date_of};
 ghost use Rattle.gtfs_days.specs.Zone.{zone_origin};
-ghost use Rattle.gtfs_cli.specs.Options.{service_day};
+ghost use Rattle.gtfs_cli.specs.Options.{day_if_given, service_day};
 ghost use Rattle.gtfs_cli.specs.OptionValues.{after_at, instant_at, moment_of};
 ghost use Rattle.gtfs_cli.specs.Refusals.{IsSound};
 
@@ -46,6 +46,19 @@ pub(super) fn read_service_day(text: &str) -> Option<Day>
         return None;
     }
     Some(day)
+}
+
+// The same of a text that may be missing. None where it is there and is none.
+pub(super) fn read_day_if_given(text: Option<&str>) -> Option<Option<Day>>
+    ensures { result ≡ day_if_given (option_map (λ t. t.now) text.entry) }
+{
+    match text {
+        None => Some(None),
+        Some(text) => match read_service_day(text) {
+            Some(day) => Some(Some(day)),
+            None => None,
+        },
+    }
 }
 
 impl Moment {

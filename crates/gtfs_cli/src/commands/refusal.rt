@@ -12,6 +12,8 @@ pub(super) enum Refusal<'w> {
     Words(String),
     // The value of this option is bad.
     BadValue(&'static str),
+    // A day is given to a check, and no advice is asked for.
+    DayWithoutAdvice,
     // There is no such folder or file.
     NotThere(&'w str),
     // The folder or the file cannot be read.
@@ -77,7 +79,10 @@ impl Refusal<'_> {
             | Refusal::UnknownRoute
             | Refusal::ZonesDiffer
             | Refusal::MergeTooLarge => 1,
-            Refusal::Words(_) | Refusal::BadValue(_) | Refusal::UntilBeforeFrom => 2,
+            Refusal::Words(_)
+            | Refusal::BadValue(_)
+            | Refusal::DayWithoutAdvice
+            | Refusal::UntilBeforeFrom => 2,
             Refusal::NotThere(_)
             | Refusal::Unreadable(_)
             | Refusal::OverLimit(_)

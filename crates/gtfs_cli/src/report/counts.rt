@@ -1,6 +1,6 @@
 ghost use Rattle.std.specs.Prelude.{◌≡◌, ◌++◌, ◌≤◌, ◌+◌, string_bytes, string_len, OnOk, OnErr};
 ghost use Rattle.std.specs.String.{string_capacity};
-ghost use Rattle.gtfs_cli.specs.Checking.{counts_text};
+ghost use Rattle.gtfs_cli.specs.CheckLines.{counts_text};
 
 use crate::report::pieces::push_piece;
 use gtfs_field::OutOfMemory;

@@ -3,7 +3,7 @@ ghost use Rattle.std.specs.String.{string_capacity};
 ghost use Rattle.gtfs_rules.specs.Report.{column_shown, problem_line};
 ghost use Rattle.gtfs_columns.specs.Values.{plain};
 ghost use Rattle.gtfs_columns.specs.View.{problem_of};
-ghost use Rattle.gtfs_cli.specs.Checking.{names_len};
+ghost use Rattle.gtfs_cli.specs.CheckLines.{names_len, without_end};
 
 use crate::report::pieces::push_piece;
 use gtfs_columns::push_plain;
@@ -12,16 +12,15 @@ use gtfs_rules::Problem;
 use itoa::Buffer;
 
 // How many bytes of a line are neither a name nor a text of the code, at most: the row has 20, a
-// dash for no column one, and one stands after each part.
-const LINE_ROOM: usize = 26;
+// dash for no column one, and one stands between two parts.
+const LINE_ROOM: usize = 25;
 
-// Appends the line of a problem: `CODE FILE:ROW COLUMN TEXT` and a line feed, with a dash for no
+// Appends the line of a problem, up to its end: `CODE FILE:ROW COLUMN TEXT`, with a dash for no
 // column and a space for each control character of a name.
-// Errors: `OutOfMemory` where the text cannot grow; it is then as it was.
-pub(crate) fn push_problem(text: &mut String, problem: &Problem<'_>) -> Result<(), OutOfMemory>
-    ensures appended { OnOk result (string_bytes text.new ≡ string_bytes text.old ++ problem_line
-        (problem_of problem.now)) }
-    ensures unchanged { OnErr result (string_bytes text.new ≡ string_bytes text.old) }
+// Errors: `OutOfMemory` where the text cannot grow.
+pub(super) fn push_problem(text: &mut String, problem: &Problem<'_>) -> Result<(), OutOfMemory>
+    ensures { OnOk result (string_bytes text.new
+        ≡ string_bytes text.old ++ without_end (problem_line (problem_of problem.now))) }
 {
     text.reserve(room_for(problem))?;
     write_problem(text, problem);
@@ -30,7 +29,7 @@ pub(crate) fn push_problem(text: &mut String, problem: &Problem<'_>) -> Result<(
 
 // How many bytes the line of a problem has, at most.
 fn room_for(problem: &Problem<'_>) -> usize
-    ensures { result ≡ min (26 + names_len (problem_of problem.now)) (2 ^ 64 - 1) }
+    ensures { result ≡ min (25 + names_len (problem_of problem.now)) (2 ^ 64 - 1) }
 {
     LINE_ROOM
         .saturating_add(problem.code.name().len())
@@ -41,10 +40,10 @@ fn room_for(problem: &Problem<'_>) -> usize
 
 // Appends the line of a problem, for which there is room.
 fn write_problem(text: &mut String, problem: &Problem<'_>)
-    requires { string_len text.old + (26 + names_len (problem_of problem.now))
+    requires { string_len text.old + (25 + names_len (problem_of problem.now))
         ≤ string_capacity text.old }
-    ensures { string_bytes text.new ≡ string_bytes text.old ++ problem_line
-        (problem_of problem.now) }
+    ensures { string_bytes text.new
+        ≡ string_bytes text.old ++ without_end (problem_line (problem_of problem.now)) }
 {
     push_piece(text, problem.code.name(), " ");
     push_plain(text, problem.file.as_str());
@@ -52,7 +51,6 @@ fn write_problem(text: &mut String, problem: &Problem<'_>)
     push_piece(text, "", " ");
     push_plain(text, shown_column(problem.column));
     push_piece(text, " ", problem.code.text());
-    push_piece(text, "", "\n");
 }
 
 // The name of a column, or a dash for none.

@@ -1,6 +1,8 @@
-use Rattle.gtfs_nearby.proofs.Searches.{IsLeastSoFar}
+use Rattle.std.proofs.Common.{min}
+use Rattle.gtfs_nearby.specs.Search.{IsLeastOfRun}
+use Rattle.gtfs_nearby.proofs.Blocks.{stops}
 use Rattle.gtfs_nearby.proofs.search.least_of_all.Given as goal
 
 -- the least of the stops so far
-abbrev pub invariant-loop-one : goal.invariant-loop-one
-invariant-loop-one l = IsLeastSoFar l.area l.listed l.one-index l.fn.below l.least
+abbrev pub invariant-loop-number : goal.invariant-loop-number
+invariant-loop-number l = IsLeastOfRun l.area l.listed (stops l.fn.run.from (min l.fn.run.until l.number)) l.fn.below l.least

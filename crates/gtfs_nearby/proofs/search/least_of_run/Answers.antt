@@ -1,15 +1,24 @@
-use Rattle.std.proofs.Common.{◌<◌, ◌*◌, ◌+◌, arith, subst}
-use Rattle.gtfs_nearby.proofs.Searches.{before-ceil, in-block, run-more}
+use Rattle.std.proofs.Common.{◌-◌, arith}
+use Rattle.gtfs_nearby.proofs.Searches.{after-all, after-none, after-open, after-told, first-within}
 use Rattle.gtfs_nearby.proofs.search.least_of_run.Goals as goal
 
-pub least_of_block-least-requires : goal.least_of_block-least-requires
-least_of_block-least-requires c =
-    let n = c.loop-number.number in
-    let last = before-ceil c.args.run.until n (subst (λ m. n < m) c.div_ceil-number-end.ensures c.loop-number-test.true) in
-    in-block c.args.listed.now c.args.blocks.now _ c.args.run n c.max-from.result c.min-until.result c.requires.blocks c.requires.within c.requires.run c.loop-number.auto.number last c.max-from.ensures c.min-until.ensures
+pub loop-left-init : goal.loop-left-init
+loop-left-init c = record { within = omega arith; least = after-none c.args.area.now c.args.listed.now c.args.tree.now c.requires.tree c.args.run c.args.below c.requires.within }
 
-pub loop-number-preserved : goal.loop-number-preserved
-loop-number-preserved c =
-    let n = c.loop-number.number in
-    run-more c.args.area.now c.args.listed.now c.args.run c.args.below c.loop-number.least c.least_of_block-least.result (n * 256) ((n + 1) * 256) c.max-from.result c.min-until.result c.requires.within
-    c.max-from.ensures c.min-until.ensures (omega arith) c.loop-number.invariant c.least_of_block-least.ensures
+pub loop-left-preserved : goal.loop-left-preserved
+loop-left-preserved c = record {
+  within = omega arith;
+  least = after-open c.args.area.now c.args.listed.now c.args.tree.now c.requires.tree c.args.run c.args.below (c.loop-left.left - 1) c.loop-left.left c.loop-left.least _ (omega arith) (omega arith)
+      c.in_default.ensures.parts c.loop-left.invariant.least;
+}
+
+pub loop-left-preserved-in-Some : goal.loop-left-preserved-in-Some
+loop-left-preserved-in-Some c =
+    record {
+      within = first-within c.args.area.now c.args.listed.now c.args.tree.now c.requires.tree c.args.run c.args.below (c.loop-left.left - 1) _ (omega arith);
+      least = after-told c.args.area.now c.args.listed.now c.args.tree.now c.requires.tree c.args.run c.args.below (c.loop-left.left - 1) c.loop-left.left c.loop-left.least c.in-Some.told _ (omega arith) (omega arith)
+          c.loop-left.invariant.least c.in-Some.ensures.told;
+    }
+
+pub returns : goal.returns
+returns c = after-all c.args.area.now c.args.listed.now c.args.tree.now c.requires.tree c.args.run c.args.below c.loop-left.left c.loop-left.least c.loop-left-test.false c.loop-left.invariant.least

@@ -1,13 +1,17 @@
-use Rattle.std.proofs.Common.{arith}
-use Rattle.gtfs_nearby.proofs.Blocks.{so_far-all, so_far-more, so_far-none}
+use Rattle.std.proofs.Common.{◌+◌, arith, refl, subst}
+use Rattle.gtfs_nearby.specs.Index.{IsBlock}
+use Rattle.gtfs_nearby.proofs.Blocks.{block-joined, block-one, stops}
 use Rattle.gtfs_nearby.proofs.block.Block.of.Goals as goal
 
-pub loop-one-init : goal.loop-one-init
-loop-one-init c = so_far-none c.args.listed.now _ c.of_one-block.result c.requires c.of_one-block.ensures
+pub loop-number-init : goal.loop-number-init
+loop-number-init c = block-one c.args.listed.now c.args.stops.from (c.args.stops.from + 1) _ c.of_one-block.result (omega arith) refl c.of_one-block.ensures
 
-pub loop-one-preserved : goal.loop-one-preserved
-loop-one-preserved c =
-    so_far-more c.args.listed.now c.loop-one.one-index _ c.loop-one.block c.with-block.result c.loop-one-test.true c.with-block.ensures c.loop-one.invariant
+pub loop-number-preserved : goal.loop-number-preserved
+loop-number-preserved c =
+    let xs = c.args.listed.now in
+    let n = c.loop-number.number in
+    block-joined xs c.args.stops.from n (n + 1) c.loop-number.block c.of_one.result c.joined-block.result c.joined-block.ensures c.loop-number.invariant
+    (block-one xs n (n + 1) _ c.of_one.result (omega arith) refl c.of_one.ensures)
 
 pub returns : goal.returns
-returns c = so_far-all c.args.listed.now c.loop-one.one-index c.loop-one.block (omega arith) c.loop-one.invariant
+returns c = subst (λ u. IsBlock c.args.listed.now (stops c.args.stops.from u) c.loop-number.block) (omega arith) c.loop-number.invariant

@@ -1,6 +1,7 @@
-use Rattle.gtfs_nearby.proofs.Blocks.{IsBlockSoFar}
+use Rattle.gtfs_nearby.specs.Index.{IsBlock}
+use Rattle.gtfs_nearby.proofs.Blocks.{stops}
 use Rattle.gtfs_nearby.proofs.block.Block.of.Given as goal
 
 -- the block of the stops so far
-abbrev pub invariant-loop-one : goal.invariant-loop-one
-invariant-loop-one l = IsBlockSoFar l.listed l.one-index l.block
+abbrev pub invariant-loop-number : goal.invariant-loop-number
+invariant-loop-number l = IsBlock l.listed (stops l.fn.stops.from l.number) l.block
