@@ -82,7 +82,7 @@ def signature_of(text):
 def unknown_signatures(lines):
     """The signatures of the library's page that stand in no source, and how many there are in all."""
     with open(LIBRARY, encoding="utf-8") as file:
-        signatures = [signature_of(text) for text in re.findall(r"`((?:pub )?fn [^`]+)`", file.read())]
+        signatures = [signature_of(text) for text in re.findall(r"`((?:pub\s+)?fn\s[^`]+)`", file.read())]
     code = signature_of(" ".join(lines))
     # What follows a signature in a source is a clause, its body, or the end of a method without one.
     follows = r"(?= (?:requires|ensures|\{)|;)"

@@ -221,7 +221,8 @@ function tableOf(sheet, from, caption) {
     const cells = times.map((time) => element("td", {}, time === null ? "–" : timeOf(time)));
     return element("tr", {}, element("th", { scope: "row" }, nameOf(stop)), ...cells);
   });
-  return element("table", {}, element("caption", {}, caption), element("thead", {}, head), element("tbody", {}, ...rows));
+  const title = element("caption", {}, element("span", {}, caption));
+  return element("table", {}, title, element("thead", {}, head), element("tbody", {}, ...rows));
 }
 
 /** The same in a frame that can be scrolled, also by keyboard. */
@@ -286,6 +287,7 @@ function show() {
     place(id).setAttribute("aria-current", isHere ? "page" : "false");
     if (isHere && location.hash) place(id).href = location.hash;
   }
+  document.title = isTimetable ? "Timetable" : "Departures";
   say("");
   if ("stop" in fields) showBoard(fields.stop, isShown);
   else if ("route" in fields) showTimetable(fields.route, fields.day ?? "", isShown);

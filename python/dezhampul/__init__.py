@@ -4,8 +4,8 @@
         for departure in feed.next("HAR", count=10):
             print(departure.time, departure.route, departure.headsign)
 
-The program answers. This package starts it, asks it, and makes objects of its lines. Only `names` reads the files of a feed itself, and only
-`Feed.now` tells a time that is not the program's.
+The program answers. This package starts it, asks it, and makes objects of its lines. Only `names` reads the files of a feed itself, and
+only `Feed.now` tells a time that is not the program's.
 """
 from .departures import Departure
 from .faults import (
@@ -20,5 +20,6 @@ from .version import VERSION as __version__
 
 __all__ = [
     "Advice", "BrokenProcess", "Departure", "DeviceFault", "Feed", "HasErrors", "Merged", "Names", "NoProgram", "NoZone", "OutOfMemory",
-    "Problem", "Refused", "Renamed", "Report", "Route", "Sheet", "Stop", "UnknownRoute", "UnknownStop", "__version__", "check", "merge", "names",
+    "Problem", "Refused", "Renamed", "Report", "Route", "Sheet", "Stop", "UnknownRoute", "UnknownStop", "__version__", "check", "merge",
+    "names",
 ]

@@ -77,9 +77,10 @@ class Feed:
         `begin` is among them, and one at `end` is not. `limit` is the most departures, and `after` the key of one that is passed over with
         all before it. They come page by page while they are taken, so a long span needs no more memory than a short one.
 
-        Raises `ValueError` at once for a datetime without an offset, a negative limit, and an id or a key with a tab or a line feed. When
-        the first departure is taken, it raises `UnknownStop`, or `Refused` for an end before the beginning, a day before 1900 or after
-        9998, or a key that is none. `OutOfMemory` may come after some departures; those are right. `BrokenProcess` may come after some too.
+        Raises `ValueError` at once for a datetime without an offset, a negative limit, and an id or a key with a tab or a line feed, and
+        `TypeError` for an id that is no text or an end that is no date. When the first departure is taken, it raises `UnknownStop`, or
+        `Refused` for an end before the beginning, a day before 1900 or after 9998, or a key that is none. `OutOfMemory` may come after some
+        departures; those are right. `BrokenProcess` may come after some too.
         """
         if limit is not None and limit < 0:
             raise ValueError(f"the limit is negative: {limit}")
@@ -89,15 +90,16 @@ class Feed:
     def next(self, stop: str, count: Optional[int] = None) -> Iterator[Departure]:
         """The next departures at a stop from now on, as many as `count`, or all that there ever are. Raises as `board` does.
 
-        Where there is none, the feed has probably expired.
+        Where there is none, the feed has probably expired, or trips only end at this stop.
         """
         return self.board(stop, datetime.now(timezone.utc), _LAST_DAY, limit=count)
 
     def timetable(self, route: str, day: date, direction: Optional[int] = None) -> Iterator[Sheet]:
         """The sheets of a route on a service day, and none if nothing runs: all, or those with the `direction_id` 0 or 1.
 
-        Raises `ValueError` at once for another direction, and for an id with a tab or a line feed. When the first sheet is taken, it raises
-        `UnknownRoute`, `BrokenProcess`, or `Refused` for a day before 1900. `OutOfMemory` may come after some sheets; those are right.
+        Raises `ValueError` at once for another direction, and for an id with a tab or a line feed, and `TypeError` for an id that is no
+        text or a day that is no date. When the first sheet is taken, it raises `UnknownRoute`, `BrokenProcess`, or `Refused` for a day
+        before 1900. `OutOfMemory` may come after some sheets; those are right.
         """
         return self._sheets(route, timetable_request(route, day, direction))
 

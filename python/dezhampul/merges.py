@@ -50,8 +50,9 @@ def merge(
 
     `near` makes one stop of two that are at most so many millionths of a degree apart. With `cutoff` the service days of the first feed
     count before that day, and those of the second from it on. `time_limit` is in seconds; None is no limit. Raises `HasErrors` with the
-    report of the feed that has them, `DeviceFault`, `OutOfMemory`, `Refused` (as `zones differ`), `BrokenProcess` and `NoProgram`. After a
-    `DeviceFault`, an `OutOfMemory` or a `BrokenProcess` a part of the files may have been written.
+    report of the feed that has them, `DeviceFault`, `OutOfMemory`, `Refused` (as `zones differ`), `TypeError` for a cutoff that is no
+    date, `BrokenProcess` and `NoProgram`. After a `DeviceFault`, an `OutOfMemory` or a `BrokenProcess` a part of the files may have been
+    written.
     """
     words = ["merge"]
     if near is not None:

@@ -83,7 +83,8 @@ def check(feed: Path, *, advise: bool = False, day: Optional[date] = None, time_
 
     `advise` asks for advice, and `day` with it for advice where fewer than seven days of service are left on that day. `time_limit` is in
     seconds; None is no limit. Raises `DeviceFault` where the folder is not there or cannot be read, `OutOfMemory`, `Refused` for a path
-    that is not UTF-8, for a day before 1900 or after 9998 and for one without `advise`, `BrokenProcess` and `NoProgram`.
+    that is not UTF-8, for a day before 1900 or after 9998 and for one without `advise`, `TypeError` for one that is no date,
+    `BrokenProcess` and `NoProgram`.
     """
     words = ["check", "--values", *(["--advise"] if advise else []), *([] if day is None else [f"--day={text_of_day(day)}"])]
     folder = os.fsdecode(feed)

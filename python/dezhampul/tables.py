@@ -21,8 +21,9 @@ def rows_of(feed: Path, name: str, *columns: str) -> Iterator[List[str]]:
         raise FileNotFoundError(path)
     with open(path, encoding="utf-8", newline="") as file:
         lines = itertools.chain([file.readline().lstrip("\ufeff")], file)
-        # (an empty line is no record)
-        records = ([field.strip(_BLANKS) for field in record] for record in csv.reader(lines) if record)
+        # (before Python 3.11 csv reads no NUL, which is a blank as all controls are; an empty line is no record)
+        rows = csv.reader(line.replace("\0", " ") for line in lines)
+        records = ([field.strip(_BLANKS) for field in record] for record in rows if record)
         header: List[str] = next(records, [])
         places = [header.index(column) if column in header else len(header) for column in columns]
         for record in records:

@@ -51,11 +51,11 @@ def zone_file(feed: Path) -> str:
 
 def zone_of(path: str) -> tzinfo:
     """The zone of a zone file. Raises `DeviceFault` where it cannot be read, and `NotImplementedError` before Python 3.9."""
-    if sys.version_info < (3, 9):
-        raise NotImplementedError("Python 3.8 has no zoneinfo: for the time at the stops use Python 3.9 or later")
-    import zoneinfo
-    try:
-        with open(path, "rb") as file:
-            return zoneinfo.ZoneInfo.from_file(file, key=path)
-    except (OSError, ValueError):
-        raise DeviceFault(3, f"{path} cannot be read") from None
+    if sys.version_info >= (3, 9):
+        import zoneinfo
+        try:
+            with open(path, "rb") as file:
+                return zoneinfo.ZoneInfo.from_file(file, key=path)
+        except (OSError, ValueError):
+            raise DeviceFault(3, f"{path} cannot be read") from None
+    raise NotImplementedError("Python 3.8 has no zoneinfo: for the time at the stops use Python 3.9 or later")

@@ -1,18 +1,17 @@
 """Boards, and the next departures."""
 import os
 import shutil
-import sys
 import tracemalloc
-import unittest
 from datetime import date, datetime, timedelta, timezone
 from itertools import islice
 from unittest import mock
 
 import dezhampul
-from made import BEGIN, END, FEEDS, UTC, ZONE, Case, answer, at, compact, example, make_feed, make_long_feed, put, stops_of, text_of_board
+from made import (
+    BEGIN, END, FEEDS, HAS_ZONES, UTC, ZONE, Case, answer, at, compact, example, make_feed, make_long_feed, put, stops_of, text_of_board,
+)
 
 DAY, NEXT_DAY = date(2024, 4, 1), date(2024, 4, 2)
-HAS_ZONES = unittest.skipIf(sys.version_info < (3, 9), "Python 3.8 has no zoneinfo")
 ODD = "a/b \"c\" 'd'/1/2/20240401 =="
 
 
@@ -144,12 +143,12 @@ class Boards(Case):
                 feed.now()
 
     def test_odd_ids(self):
-        """ids have spaces, slashes and quotes at any place"""
-        stop, quoted = f" {ODD} ".strip(), ODD.replace('"', '""')
+        """ids have spaces, slashes and quotes at any place; the tabs and the blanks at their ends in the files are no part of them"""
+        stop, quoted = ODD, ODD.replace('"', '""')
         folder = make_feed(
             self.path("odd"),
-            stops=f'stop_id,stop_name,stop_lat,stop_lon\n"{quoted}",Mill,1,2\nS2,Lake,1,2\n',
-            trips=f'route_id,service_id,trip_id\nR1,C1,"{quoted}"\nR1,C1,"/"\nR1,C1,"\u00e6\u2028\u0085x"\n',
+            stops=f'stop_id,stop_name,stop_lat,stop_lon\n"\t{quoted} \t",Mill,1,2\nS2,Lake,1,2\n',
+            trips=f'route_id,service_id,trip_id\nR1,C1," {quoted}\t"\nR1,C1,"/"\nR1,C1,"\u00e6\u2028\u0085x"\n',
             stop_times="trip_id,arrival_time,departure_time,stop_id,stop_sequence\n" + "".join(
                 f'"{trip}",08:00:00,08:00:00,"{quoted}",1\n"{trip}",08:10:00,08:10:00,S2,2\n'
                 for trip in (quoted, "/", "\u00e6\u2028\u0085x")),

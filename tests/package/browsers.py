@@ -8,12 +8,13 @@ import signal
 import socket
 import subprocess
 import sys
-from datetime import date
+from datetime import date, timedelta
 from glob import glob
 from html.parser import HTMLParser
+from unittest import mock
 from urllib.parse import urlencode
 
-from made import BROKEN, PACKAGE, UTC, ZONE, Case, answer, at, example, make_feed
+from made import BROKEN, HAS_ZONES, PACKAGE, UTC, ZONE, Case, answer, at, example, make_feed
 from program import ROOT, read
 from served import NOW, SCRIPT, Served, board, server
 
@@ -22,6 +23,22 @@ PIPES = {"stdin": subprocess.DEVNULL, "stdout": subprocess.PIPE, "stderr": subpr
 VOID = {"meta", "link", "input", "br", "img", "hr"}
 ODD = "<script>document.title='bad'</script><img src=x onerror=\"document.title='bad'\"> & 'one'"
 PLATFORMS = {"HAR-1": "1", "HAR-2": "2"}
+# What numbers the rows of a board in the order in which they were made.
+NUMBERING = b"""
+let count = 0;
+setInterval(() => {
+  for (const row of document.querySelectorAll("#departures tbody tr:not(.day)")) row.dataset.number ??= ++count;
+}, 100);
+"""
+
+# What tells how wide frames are, and what stands in them.
+WIDTHS = b"""
+setInterval(() => {
+  const pages = [...document.querySelectorAll("iframe")].map((frame) => frame.contentDocument.documentElement);
+  document.getElementById("widths").textContent = pages.map((page) => `${page.clientWidth} ${page.scrollWidth}`).join("\\n");
+}, 100);
+"""
+
 NAMES = {"HAR": "Old Harbour", "HAR-1": "Old Harbour, platform 1", "HAR-2": "Old Harbour, platform 2", "LIG": "Lighthouse",
          "MAR": "Fish Market", "PIE": "Pier Seven", "UNI": "University"}
 
@@ -54,6 +71,7 @@ def listens(address, port):
     return True
 
 
+@HAS_ZONES
 class Scripts(Case):
     def test_loopback(self):
         """it listens on the loopback alone, unless it is told otherwise"""
@@ -91,19 +109,23 @@ class Scripts(Case):
 
 
 class Shown(HTMLParser):
-    """What a page shows: the text of each element with an id, the rows of its tables, and the kinds of its elements."""
+    """What a page shows: the text of each element with an id, the rows of its tables with their numbers, and the styles of its routes."""
 
     def __init__(self, text):
         super().__init__()
-        self.texts, self.rows, self.captions, self.kinds, self.open = {}, [], [], [], []
+        self.texts, self.rows, self.numbers, self.captions, self.kinds, self.open = {}, [], [], [], [], []
+        self.styles = set()
         self.feed(text)
 
     def handle_starttag(self, tag, attributes):
         self.kinds.append(tag)
         if tag not in VOID:
             self.open.append((tag, dict(attributes).get("id")))
+        if ("class", "route") in attributes:
+            self.styles.add(dict(attributes)["style"])
         if tag == "tr":
             self.rows.append([])
+            self.numbers += [int(number) for name, number in attributes if name == "data-number"]
         elif tag in ("td", "th"):
             self.rows[-1].append("")
         elif tag == "caption":
@@ -154,11 +176,16 @@ def blocks_of(text, names):
     return rows
 
 
+def start_browser(room, seconds, what, url):
+    """Starts a browser, for which some seconds pass on the page of an address."""
+    words = f"--headless --no-sandbox --disable-gpu --virtual-time-budget={seconds}000".split()
+    return subprocess.Popen([BROWSER, *words, f"--user-data-dir={room}", what, url], **PIPES)
+
+
 @contextlib.contextmanager
-def browsing(room, *urls):
-    """The pages of some addresses, by a browser."""
-    words = "--headless --no-sandbox --disable-gpu --virtual-time-budget=4000 --dump-dom".split()
-    ran = [subprocess.Popen([BROWSER, *words, f"--user-data-dir={room}/{number}", url], **PIPES) for number, url in enumerate(urls)]
+def browsing(room, seconds, *urls):
+    """The pages of some addresses."""
+    ran = [start_browser(f"{room}/{number}", seconds, "--dump-dom", url) for number, url in enumerate(urls)]
     try:
         yield [Shown(process.communicate(timeout=60)[0].decode()) for process in ran]
     finally:
@@ -173,9 +200,9 @@ class Browsers(Served):
         if not BROWSER:
             self.skipTest("there is no chromium")
 
-    def browse(self, *views):
+    def browse(self, *views, seconds=4):
         """What a browser shows of the views with these fields."""
-        with browsing(self.room, *(f"http://127.0.0.1:{self.port}/#{urlencode(fields)}" for fields in views)) as pages:
+        with browsing(self.room, seconds, *(f"http://127.0.0.1:{self.port}/#{urlencode(fields)}" for fields in views)) as pages:
             return pages
 
     def test_views(self):
@@ -186,6 +213,7 @@ class Browsers(Served):
         self.assertEqual([[cell.replace(",", "") for cell in row] for row in shown.rows[1:]], rows_of(text, NOW))
         self.assertEqual((shown.texts["board-title"], shown.texts["clock"]), ("Old Harbour", "06:50"))
         self.assertEqual(shown.rows[0], ["Time", "Route", "To", "Platform", "Leaves in"])
+        self.assertEqual(shown.styles, {"background-color: rgb(0, 85, 164); color: rgb(255, 255, 255);"})
         text = answer("timetable", example("harbour"), "--route=RING", "--date=20240402")
         self.assertEqual(timetable.rows[1:], blocks_of(text, NAMES))
         self.assertEqual(timetable.texts["timetable-title"], "1 Harbour Ring")
@@ -193,9 +221,59 @@ class Browsers(Served):
         self.assertEqual(unknown.texts["words"], "The feed has no such stop.")
         self.assertEqual(len(unknown.rows), 1)
 
-    def odd_feed(self):
+    def test_refreshed(self):
+        """a board is asked for again and again, and rows that stay on it are not made anew"""
+        source, minutes = self.serve(example("harbour"), now=NOW - timedelta(minutes=10)), timedelta(minutes=10)
+        ask = source.ask
+
+        def ask_later(question, fields):
+            source.now += minutes if question is server.board else timedelta()
+            return ask(question, fields)
+
+        kind, script = server.FILES["/page.js"]
+        with mock.patch.dict(server.FILES, {"/page.js": (kind, script + NUMBERING)}), mock.patch.object(source, "ask", ask_later):
+            shown, = self.browse({"stop": "HAR"}, seconds=50)
+        self.assertEqual(source.now, NOW + 2 * minutes)
+        text = board(example("harbour"), ZONE, "HAR", source.now)
+        self.assertEqual([[cell.replace(",", "") for cell in row] for row in shown.rows[1:]], rows_of(text, source.now))
+        # (the first one has left by then, and another has come)
+        self.assertEqual(shown.numbers, [*range(2, 12)])
+
+    def test_phone(self):
+        """on a phone no view is wider than the screen, also with long names"""
+        self.serve(self.odd_feed("W" * 60), UTC, at(1711998000))
+        views = [{"stop": "S1"}, {"route": "R1", "day": "2024-04-01"}, {"timetable": ""}, {"stop": "none"}]
+        frames = "".join(f'<iframe width="360" height="640" src="/#{urlencode(view)}"></iframe>' for view in views)
+        page = f'<!doctype html><script src="/widths.js"></script><p id="widths"></p>{frames}'
+        files = {"/widths": ("text/html", page.encode()), "/widths.js": ("text/javascript", WIDTHS)}
+        with mock.patch.dict(server.FILES, files), mock.patch.dict(server.HEADERS, {"Content-Security-Policy": "default-src 'self'"}):
+            with browsing(self.room, 4, f"http://127.0.0.1:{self.port}/widths") as (shown,):
+                widths = [line.split() for line in shown.texts["widths"].splitlines()]
+        self.assertEqual([width for width, _ in widths], [whole for _, whole in widths])
+        self.assertEqual(len(widths), len(views))
+        self.assertTrue(all(300 < int(width) <= 360 for width, _ in widths), widths)
+
+    def test_printed(self):
+        """a tall sheet is printed on pages that end between its blocks"""
+        stops, day = range(1, 27), {"route": "R1", "day": "2024-04-01"}
+        folder = make_feed(
+            self.path("tall"), stops="stop_id,stop_name,stop_lat,stop_lon\n" + "".join(f"S{stop},Lake {stop},1,2\n" for stop in stops),
+            frequencies="trip_id,start_time,end_time,headway_secs,exact_times\nT1,08:00:00,21:00:00,1800,1\n",
+            stop_times="trip_id,arrival_time,departure_time,stop_id,stop_sequence\n"
+            + "".join(f"T1,08:{stop:02}:00,08:{stop:02}:00,S{stop},{stop}\n" for stop in stops))
+        self.serve(folder, UTC)
+        url, path = f"http://127.0.0.1:{self.port}/#{urlencode(day)}", self.path("printed.pdf")
+        with start_browser(self.path("browser"), 4, f"--print-to-pdf={path}", url) as process:
+            try:
+                process.communicate(timeout=60)
+            finally:
+                process.kill()
+        # (each of the three fills more than half a page, and all together fill less than two)
+        self.assertEqual(len(re.findall(rb"/Type /Page\b", read(path))), 3)
+
+    def odd_feed(self, name=ODD):
         """A feed with a name that looks like HTML, in which one of three stops has no times, and a trip runs 26 times."""
-        cell = '"' + ODD.replace('"', '""') + '"'
+        cell = '"' + name.replace('"', '""') + '"'
         return make_feed(
             self.path("odd"), stops=f"stop_id,stop_name,stop_lat,stop_lon\nS1,{cell},1,2\nS2,Lake,1,2\nS3,Hill,1,2\n",
             routes=f"route_id,route_short_name,route_type,route_color\nR1,{cell},3,00FF00\n",
@@ -216,6 +294,7 @@ class Browsers(Served):
         self.assertIn("24:00 on are after midnight", timetable.texts["notes"])
         self.assertIn("– The timetable gives no time", timetable.texts["notes"])
         for page in shown, timetable:
+            self.assertEqual(page.styles, {"background-color: rgb(0, 255, 0); color: rgb(0, 0, 0);"})
             self.assertEqual((page.kinds.count("script"), page.kinds.count("img")), (1, 0))
 
     def test_filled(self):
@@ -260,10 +339,12 @@ class Pages(Case):
             self.skipTest("there is no node")
         script = read(os.path.join(os.path.dirname(SCRIPT), "page.js")).decode()
         function = re.search(r"^function fitting\(.*?^}$", script, flags=re.M | re.S)[0]
-        labels = [("Old Harbour", "HAR"), ("Old Harbour, platform 1", "HAR-1"), ("Lake", "a1"), ("Lakeside", "A1"), ("a1b", "Har"), ("b2", "x")]
+        labels = [("Old Harbour", "HAR"), ("Old Harbour, platform 1", "HAR-1"), ("Lake", "a1"), ("Lakeside", "A1"), ("a1b", "Har"),
+                  ("b2", "x")]
         wanted = {
-            " old harbour": ["HAR"], "HARBOUR": ["HAR", "HAR-1"], "platform": ["HAR-1"], "HAR": ["HAR"], " Har ": ["Har"], "har-1": ["HAR-1"],
-            "a1": ["a1"], "A1": ["A1"], "B2": ["x"], "lake": ["a1"], "ake": ["a1", "A1"], "X": ["x"], "1b": ["Har"], "none": [], "-1": [],
+            " old harbour": ["HAR"], "HARBOUR": ["HAR", "HAR-1"], "platform": ["HAR-1"], "HAR": ["HAR"], " Har ": ["Har"],
+            "har-1": ["HAR-1"], "a1": ["a1"], "A1": ["A1"], "B2": ["x"], "lake": ["a1"], "ake": ["a1", "A1"], "X": ["x"], "1b": ["Har"],
+            "none": [], "-1": [],
         }
         call = f"{function} const labels = new Map({json.dumps(labels)});"
         call += f"console.log(JSON.stringify({json.dumps(list(wanted))}.map((text) => fitting(labels, text))));"
@@ -275,5 +356,5 @@ class Pages(Case):
         pictures = glob(os.path.join(ROOT, "docs", "pictures", "*"))
         for path in pictures:
             data = read(path)
-            self.assertTrue(data.startswith(b"\x89PNG\r\n") and len(data) < 60_000, path)
+            self.assertTrue(data.startswith(b"\x89PNG\r\n") and len(data) < 40_000, path)
         self.assertEqual(len(pictures), 2)

@@ -10,7 +10,7 @@ from datetime import date, datetime
 from unittest import mock
 
 import dezhampul
-from made import PACKAGE, UTC, ZONE, Case, answer, at, example, load, make_feed
+from made import HAS_ZONES, PACKAGE, UTC, ZONE, Case, answer, at, example, load, make_feed
 from program import ROOT
 
 SCRIPT = os.path.join(ROOT, "examples", "python", "display.py")
@@ -37,6 +37,7 @@ def cells_of(line, today):
     return [*([] if day == today else [f"{day:%a %d %b}"]), about + clock[11:16], route, f"platform {stop[-1]}", *filter(None, [headsign])]
 
 
+@HAS_ZONES
 class Displays(Case):
     @contextlib.contextmanager
     def opened(self, folder, zone, now):
@@ -82,14 +83,14 @@ class Displays(Case):
     def test_refresh(self):
         """it is shown anew each minute below a clock, and after the program was killed once it is started again"""
         out, err = io.StringIO(), io.StringIO()
-        with self.opened(example("harbour"), ZONE, NOW) as (feed, stops), mock.patch.object(display.time, "sleep") as sleep:
+        with self.opened(example("harbour"), ZONE, NOW) as (feed, stops), mock.patch.object(display, "time") as time:
             steps = iter([lambda: os.kill(feed._process.number, signal.SIGKILL), lambda: None])
-            sleep.side_effect = lambda seconds: next(steps, self.interrupt)()
+            time.sleep.side_effect = lambda seconds: next(steps, self.interrupt)()
             with contextlib.redirect_stdout(out), contextlib.redirect_stderr(err), self.assertRaises(KeyboardInterrupt):
                 display.refresh(feed, stops, "HAR")
             shown = "\033[H\033[J22:00\n" + "".join(f"{line}\n" for line in display.lines(feed, stops, "HAR", None))
         self.assertEqual((out.getvalue(), err.getvalue()), (shown * 2, "display: gtfs ended with signal 9\n"))
-        self.assertEqual([call.args for call in sleep.call_args_list], [(60,)] * 3)
+        self.assertEqual([call.args for call in time.sleep.call_args_list], [(60,)] * 3)
 
     def interrupt(self):
         raise KeyboardInterrupt

@@ -15,7 +15,11 @@ from program import LIMIT, PROGRAM, ROOT, SMALL
 PACKAGE = os.path.join(ROOT, "python")
 ZONE = os.path.join(ROOT, "examples", "central-europe")
 UTC = os.path.join(ROOT, "examples", "utc")
-FEEDS = {"harbour": ZONE, "ferry": ZONE, "tram": ZONE, "f1": UTC}
+FEEDS = {"harbour": ZONE, "ferry": ZONE, "tram": ZONE, "careless": ZONE, "f1": UTC}
+ROUTES = {"harbour": ["RING", "NIGHT"], "ferry": ["1", "N"], "tram": ["1", "N"], "careless": ["CITY", "HILL"], "f1": ["R1"]}
+
+# What needs the time at the stops.
+HAS_ZONES = unittest.skipIf(sys.version_info < (3, 9), "Python 3.8 has no zoneinfo")
 
 # A span that has all services of the examples.
 BEGIN, END = date(2024, 3, 1), date(2024, 7, 31)
@@ -73,7 +77,7 @@ def stops_of(feed):
 
 
 def compact(day):
-    return f"{day:%Y%m%d}"
+    return day.isoformat().replace("-", "")
 
 
 def line_of(departure):
@@ -161,7 +165,8 @@ class Case(unittest.TestCase):
 
     def stand_in(self, text, begin=OPENED):
         """Has the package call a script in place of the program."""
-        put(self.path("stand-in"), f"#!{sys.executable}\n{begin}\n{text}\n", 0o755)
+        # (without the site's modules it starts in a fifth of the time)
+        put(self.path("stand-in"), f"#!{sys.executable} -IS\n{begin}\n{text}\n", 0o755)
         self.use(self.path("stand-in"))
 
     @contextlib.contextmanager

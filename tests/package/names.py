@@ -27,15 +27,15 @@ class Names(Case):
         hash(names)
 
     def test_odd_files(self):
-        """files may have marks, quotes, blanks, short and blank rows, and columns in any order; ids are those of the program"""
+        """files may have marks, quotes, blanks, NULs, short and blank rows, and columns in any order; ids are those of the program"""
         quoted = ODD.replace('"', '""')
         folder = make_feed(
             self.path("odd"), routes="route_type,route_short_name,route_id\n3,10,R1",
             stops='\ufeff\r\n"stop_lat", stop_id ,stop_lon,stop_name,platform_code\r\n\r\n'
-            f'1," S1 ",2," {quoted} ",\r\n , ,\r\n1,S2\x7f ,2,Lake\r\n')
+            f'1," S1 ",2," {quoted} ",\r\n , ,\r\n1,\0S2\x7f ,2,Big\0Lake\r\n')
         self.assertEqual(dezhampul.check(folder).errors, 0)
         names = dezhampul.names(folder)
-        self.assertEqual(names.stops, {"S1": dezhampul.Stop("S1", ODD.strip(" "), "", ""), "S2": dezhampul.Stop("S2", "Lake", "", "")})
+        self.assertEqual(names.stops, {"S1": dezhampul.Stop("S1", ODD.strip(" "), "", ""), "S2": dezhampul.Stop("S2", "Big Lake", "", "")})
         self.assertEqual(names.routes, {"R1": dezhampul.Route("R1", "10", "", "", "")})
         text = answer("timetable", folder, "--route=R1", "--date=20240401")
         self.assertEqual([line.split("\t")[0] for line in text.splitlines()[2:]], list(names.stops))

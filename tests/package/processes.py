@@ -1,4 +1,5 @@
 """Processes that die, hang or answer nonsense; threads; feeds that cannot be opened or are closed."""
+import dataclasses
 import gc
 import os
 import pickle
@@ -26,6 +27,10 @@ def is_running(number):
     except ProcessLookupError:
         return False
     return True
+
+
+def is_frozen(kind):
+    return dataclasses.is_dataclass(kind) and kind.__dataclass_params__.frozen
 
 
 class Broken(Case):
@@ -362,12 +367,14 @@ class Opened(Case):
             self.assertEqual(dezhampul.check(example("f1")).warnings, 7)
 
     def test_names(self):
-        """each public name has a docstring, values cannot be changed, and exceptions can be sent to other processes"""
+        """each public name has a docstring, all values are frozen, and exceptions can be sent to other processes"""
         for name in dezhampul.__all__:
             if name != "__version__":
                 self.assertTrue(getattr(dezhampul, name).__doc__, name)
         for name in ("board", "next", "timetable", "close", "zone", "now"):
             self.assertTrue(getattr(dezhampul.Feed, name).__doc__, name)
+        frozen = {name for name in dezhampul.__all__ if is_frozen(getattr(dezhampul, name))}
+        self.assertEqual(frozen, {"Advice", "Departure", "Merged", "Names", "Problem", "Renamed", "Report", "Route", "Sheet", "Stop"})
         with self.assertRaises(AttributeError):
             dezhampul.check(example("f1")).errors = 1
         again = pickle.loads(pickle.dumps(dezhampul.UnknownStop(1, "unknown stop", "no stop")))

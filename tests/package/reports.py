@@ -2,9 +2,10 @@
 import os
 import pickle
 from datetime import date, datetime
+from itertools import permutations
 
 import dezhampul
-from made import BROKEN, FEEDS, Case, answer, example, gtfs, make_feed, put
+from made import BROKEN, FEEDS, ZONE, Case, answer, example, gtfs, make_feed, put
 
 COUNTS = ["agency", "stop", "route", "service", "trip"]
 
@@ -32,7 +33,7 @@ def text_of_merge(merged):
 class Checks(Case):
     def test_examples(self):
         """the reports on all examples are the program's"""
-        for name in (*FEEDS, "broken", "careless"):
+        for name in (*FEEDS, "broken"):
             self.assertEqual(text_of_report(dezhampul.check(example(name))), gtfs("check", example(name), "--values")[1])
             self.assertEqual(dezhampul.check(example(name)).advice, ())
 
@@ -57,8 +58,9 @@ class Checks(Case):
 
     def test_advice(self):
         """advice on feeds without errors, with a day and without"""
-        for name in (*FEEDS, "careless", "broken"):
-            for words, how in (([], {}), (["--day", "20240411"], {"day": date(2024, 4, 11)}), (["--day=99981231"], {"day": date(9998, 12, 31)})):
+        for name in (*FEEDS, "broken"):
+            for words, how in (([], {}), (["--day", "20240411"], {"day": date(2024, 4, 11)}),
+                               (["--day=99981231"], {"day": date(9998, 12, 31)})):
                 report = dezhampul.check(example(name), advise=True, **how)
                 text = gtfs("check", "--advise", "--values", *words, example(name))[1]
                 self.assertEqual(text_of_report(report, name != "broken"), text)
@@ -114,7 +116,7 @@ class Checks(Case):
 
 class Merges(Case):
     def test_examples(self):
-        """merges tell what the program tells, also with near stops and with a cutoff"""
+        """merges are the program's, also with near stops and with a cutoff"""
         for number, (words, how) in enumerate([
             ([], {}), (["--near", "100"], {"near": 100}), (["--cutoff", "20240601"], {"cutoff": date(2024, 6, 1)}),
             (["--near=0", "--cutoff=20240601"], {"near": 0, "cutoff": date(2024, 6, 1)}),
@@ -125,6 +127,15 @@ class Merges(Case):
             self.assertEqual(sorted(os.listdir(self.path(f"{number}a"))), sorted(os.listdir(self.path(f"{number}b"))))
         self.assertEqual(merged.renamed[0].side, "B")
         self.assertEqual(dezhampul.check(self.path("0b")), dezhampul.Report(0, 0, ()))
+
+    def test_pairs(self):
+        """so are the merges of all examples of a zone with each other"""
+        pairs = list(permutations((feed for feed, zone in FEEDS.items() if zone == ZONE), 2))
+        for first, second in pairs:
+            text = answer("merge", example(first), example(second), self.path(f"{first}-{second}"))
+            merged = dezhampul.merge(example(first), example(second), self.path("out"))
+            self.assertEqual(text_of_merge(merged), text)
+        self.assertEqual(len(pairs), 12)
 
     def test_by_hand(self):
         """a merge has what was renamed, and counts"""

@@ -9,7 +9,7 @@ from datetime import datetime, timedelta, timezone
 from http.server import ThreadingHTTPServer
 from urllib.parse import urlencode
 
-from made import ZONE, Case, answer, load
+from made import HAS_ZONES, ZONE, Case, answer, load
 from program import ROOT
 
 SCRIPT = os.path.join(ROOT, "examples", "web", "server.py")
@@ -28,6 +28,7 @@ def board(feed, zone, stop, now, *words):
     return answer("board", feed, "--zone", zone, f"--stop={stop}", "--from", f"@{begin}", "--until", f"@{until}", "--limit", "10", *words)
 
 
+@HAS_ZONES
 class Served(Case):
     """A test with a server of its own in this process, and what that tells on its error output."""
 

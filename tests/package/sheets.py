@@ -2,9 +2,8 @@
 from datetime import date, datetime, timedelta, timezone
 
 import dezhampul
-from made import FEEDS, UTC, ZONE, Case, answer, compact, example, make_feed, make_long_feed, text_of_sheet
+from made import FEEDS, ROUTES, UTC, ZONE, Case, answer, compact, example, make_feed, make_long_feed, text_of_sheet
 
-ROUTES = {"harbour": ["RING", "NIGHT"], "ferry": ["1", "N"], "tram": ["1", "N"], "f1": ["R1"]}
 DAYS = [date(2024, 3, 30), date(2024, 4, 1), date(2024, 4, 2), date(2024, 6, 28), date(9999, 12, 31)]
 
 

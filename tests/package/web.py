@@ -11,11 +11,10 @@ from unittest import mock
 from urllib.parse import quote, urlencode
 
 import dezhampul
-from made import FEEDS, UTC, answer, at, compact, example, make_feed, put, stops_of, text_of_sheet
+from made import FEEDS, ROUTES, UTC, answer, at, compact, example, make_feed, put, stops_of, text_of_sheet
 from program import read
 from served import NOW, SCRIPT, Served, board, server
 
-ROUTES = {"harbour": ["RING", "NIGHT"], "ferry": ["1", "N"], "tram": ["1", "N"], "f1": ["R1"]}
 LOST = "The feed cannot be read at the moment. The server keeps trying."
 
 

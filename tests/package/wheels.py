@@ -7,6 +7,7 @@ import stat
 import subprocess
 import sys
 import zipfile
+from glob import glob
 
 import dezhampul
 from clones import Clone, copy, write
@@ -40,6 +41,16 @@ def unpack(path, folder):
         for entry in packed.infolist():
             os.chmod(packed.extract(entry, folder), stat.S_IMODE(entry.external_attr >> 16))
     return folder
+
+
+def pip_of_python():
+    """The wheel of pip that Python keeps for new environments, or None. It runs from there, which saves its installation."""
+    try:
+        import ensurepip
+    except ImportError:
+        return None
+    folders = os.path.join(os.path.dirname(ensurepip.__file__), "_bundled"), "/usr/share/python-wheels"
+    return next((path for folder in folders for path in glob(os.path.join(folder, "pip-*.whl"))), None)
 
 
 class Wheels(Case):
@@ -120,14 +131,14 @@ class Wheels(Case):
 
     def test_installed(self):
         """pip installs the wheel into a fresh environment, with the command gtfs"""
-        path, folder = self.build(self.room), self.path("environment")
-        made = run("-m", "venv", folder)
-        if made[0]:
-            self.skipTest(f"python3 -m venv does not work here: {(made[1] + made[2]).strip().splitlines()[-1:]}")
+        path, folder, pip = self.build(self.room), self.path("environment"), pip_of_python()
+        made = run("-m", "venv", "--without-pip", folder)
+        if made[0] or not pip:
+            self.skipTest(f"python3 -m venv does not work here, or has no pip: {(made[1] + made[2]).strip().splitlines()[-1:]}")
         python = os.path.join(folder, "bin", "python")
         how = {"stdin": subprocess.DEVNULL, "stdout": subprocess.PIPE, "stderr": subprocess.PIPE, "timeout": 60, "cwd": self.room}
         env = {name: value for name, value in os.environ.items() if name not in ("GTFS", "PYTHONPATH")}
-        call = [python, "-m", "pip", "install", "-q", "--no-index", "--disable-pip-version-check", path]
+        call = [python, os.path.join(pip, "pip"), "install", "-q", "--no-index", "--disable-pip-version-check", path]
         installed = subprocess.run(call, env=env, **how)
         self.assertEqual(installed.returncode, 0, installed.stderr)
         told = subprocess.run([python, "-m", "dezhampul"], env=env, **how).stdout.decode()

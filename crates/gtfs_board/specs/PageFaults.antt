@@ -1,7 +1,7 @@
 -- How a page ends early.
 use Rattle.std.specs.Prelude.{◌≡◌, ◌+◌, ℕ, Bool, cond, List, length, Option}
 use Rattle.gtfs_days.specs.declared.zone.Zone.{Zone}
-use Rattle.gtfs_devices.specs.Device.{Rises}
+use Rattle.gtfs_devices.specs.Device.{counted}
 use Rattle.gtfs_board.specs.Board.{AreStepsWithin, StepCount}
 use Rattle.gtfs_board.specs.Lines.{Listed}
 use Rattle.gtfs_board.specs.Page.{IsPage, IsCutShort, IsStopped}
@@ -13,9 +13,9 @@ abbrev pub EndsPage : Zone → ℕ → List Listed → List Listed → Option (L
 EndsPage z limit rest left before after (Out lines) = IsCutShort z limit rest left before after lines
 EndsPage z limit rest left before after (OutOfMemory lines) = IsStopped z limit rest left before after lines
 
--- where the output is to blame, its count of failures rose, and where memory is, that count is what it was
+-- where the output is to blame, it failed once, and where memory is, its count of failures is what it was
 abbrev pub IsCounted : ℕ → ℕ → PageFault → Type 0
-IsCounted before after (Out lines) = Rises before after
+IsCounted before after (Out lines) = after ≡ counted before
 IsCounted before after (OutOfMemory lines) = after ≡ before
 
 -- a departure was taken for each line that went out, and one more after them: these cost a step each at most, beside the steps

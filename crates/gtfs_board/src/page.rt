@@ -18,7 +18,7 @@ use thiserror::Error;
 /// the key of the last of them goes on with the next.
 #[derive(Clone, Copy, Debug, PartialEq, Eq, Error)]
 pub enum PageFault {
-    /// The output failed, and its count of failures rose.
+    /// The output failed, and its count of failures rose by one.
     /// After the whole lines a beginning of the next may have gone out.
     #[error("output failed after {0} lines")]
     Out(u64),
@@ -32,8 +32,8 @@ pub enum PageFault {
 /// the next departure is looked for, and no page is gathered in memory.
 ///
 /// # Errors
-/// `Out` where the output failed, and its count of failures rose: of one more line, whose departure
-/// is gone too, at most a beginning went out. `OutOfMemory` where memory ran out: whole lines went
+/// `Out` where the output failed, once: of one more line, whose departure is gone too, at most a
+/// beginning went out. `OutOfMemory` where memory ran out: whole lines went
 /// out, and at most one departure more is gone. Each tells how many whole lines went out.
 pub fn write_page<O: Out>(
     alloc: Global,

@@ -5,7 +5,7 @@ use Rattle.std.specs.Io.KnownBytes.{Appends}
 use Rattle.std.proofs.KnownBytes.{Appends-trans}
 use Rattle.std.proofs.lemmas.Option.{same_Some}
 use Rattle.gtfs_days.specs.declared.zone.Zone.{Zone}
-use Rattle.gtfs_devices.specs.Device.{Rises}
+use Rattle.gtfs_devices.specs.Device.{counted}
 use Rattle.gtfs_rows.specs.Content.{Content}
 use Rattle.gtfs_times.specs.declared.times.Times.{Times}
 use Rattle.gtfs_board.specs.Page.{IsCutShort, IsPage, IsStopped}
@@ -160,12 +160,12 @@ module _ (f : Content) (z : Zone) where
         let is = output-failed e none in
         let left = subst (λ (y : Refusal). SendsSome (λ part. text_left (IsCut f z q) (IsBeginning f z q) part y) a b) is p.left in
         let cause = subst (λ (y : Refusal). IsQuestionCause f z q y ⊎ IsSendingCause a.failures b.failures y) is p.refused in
-        prints-cut (IsSomeText f z q) (IsTextPart f z q) Nothing Nobody a b (left.0, is-cut q left.0 left.1, left.2) (rises q cause) p.grows
+        prints-cut (IsSomeText f z q) (IsTextPart f z q) Nothing Nobody a b (left.0, is-cut q left.0 left.1, left.2) (once q cause) p.grows
       where
-        rises : (p : Question) → IsQuestionCause f z p OutputFailed ⊎ IsSendingCause a.failures b.failures OutputFailed → Rises a.failures b.failures
-        rises (Board p) (inl none) = absurd none
-        rises (Timetable p) (inl none) = absurd none
-        rises p (inr cause) = cause
+        once : (p : Question) → IsQuestionCause f z p OutputFailed ⊎ IsSendingCause a.failures b.failures OutputFailed → b.failures ≡ counted a.failures
+        once (Board p) (inl none) = absurd none
+        once (Timetable p) (inl none) = absurd none
+        once p (inr cause) = cause
 
     tells : (e : Refusal) → (e ≡ OutputFailed → ⊥) → TellsOutput a.failures b.failures e → b.failures ≡ a.failures
     tells OutputFailed other told = absurd (other refl)
@@ -197,7 +197,7 @@ module _ (f : Content) (z : Zone) where
               }),
               Appends-trans a.told b.told c.told part cut.sent out cut.out,
             )
-            (subst (λ (n : ℕ). Rises n c.failures) same (subst (IsSendingCause b.failures c.failures) only sent.refused))
+            (subst (λ (n : ℕ). c.failures ≡ counted n) same (subst (IsSendingCause b.failures c.failures) only sent.refused))
             (omega (arith, sent.grows, same)))
 
   -- ---- a line
@@ -246,13 +246,13 @@ module _ (f : Content) (z : Zone) where
       answer-part part (inr cut) = inr cut
 
       pub ended-cut : {T : Type 0} (e : Refusal) (a b : Output) → PrintsText (IsLineText IsSomeText f z times line) (IsLinePart f z times line) Nothing Nobody {T = T} a b (Err e)
-          → ((text : List ℕ) × IsAnswerPart f z times line text × Appends a.told b.told text) × Rises a.failures b.failures
+          → ((text : List ℕ) × IsAnswerPart f z times line text × Appends a.told b.told text) × (b.failures ≡ counted a.failures)
       ended-cut e a b p = by e p.left p.refused
         where
           by : (e : Refusal) → SendsSome (λ part. text_left (IsLinePart f z times line) Nothing part e) a b → Nobody e ⊎ IsSendingCause a.failures b.failures e
-              → ((text : List ℕ) × IsAnswerPart f z times line text × Appends a.told b.told text) × Rises a.failures b.failures
+              → ((text : List ℕ) × IsAnswerPart f z times line text × Appends a.told b.told text) × (b.failures ≡ counted a.failures)
           by e left (inl none) = absurd none
-          by OutputFailed left (inr rises) = ((left.0, answer-part left.0 left.1, left.2), rises)
+          by OutputFailed left (inr once) = ((left.0, answer-part left.0 left.1, left.2), once)
           by OutOfMemory left (inr same) = absurd left.1
           by _ left (inr none) = absurd none
 

@@ -1,5 +1,6 @@
 -- What is refused is refused in one way, and nothing that is found good is refused.
-use Rattle.std.proofs.Common.{◌≡◌, ◌⊎◌, ◌∙◌, ap, sym, refl, inl, inr, ℕ, Bool, List, Some, None, codes}
+use Rattle.std.proofs.Common.{◌≡◌, ◌⊎◌, ◌∙◌, ap, sym, refl, inl, inr, ℕ, Bool, List, Some, None, codes, ◌≤◌, subst, arith}
+use Rattle.gtfs_devices.specs.Device.{counted}
 use Rattle.clap.specs.Words.{Text}
 use Rattle.gtfs_cli.specs.Judging.{followed_by, sending, values, IsFirstBad, Judged}
 use Rattle.gtfs_cli.specs.Messages.{line_of, message}
@@ -69,7 +70,7 @@ excludes-by Fact Holds j f apart fact r h = apart (f fact) r h
 -- ---- the output
 
 none-sending : (r : Refusal) → IsPlainRefusal sending r → ⊥
-none-sending OutputFailed h = h.nowhere.output h.cause
+none-sending OutputFailed h = h.nowhere.output (subst (λ (n : ℕ). counted h.before.output ≤ n) (sym h.cause) (omega arith))
 none-sending OutOfMemory h = h.enough refl
 none-sending _ h = h.cause
 

@@ -3,7 +3,7 @@ use Rattle.std.proofs.Common.{◌≡◌, ◌∙◌, ap, ◌⊎◌, ◌≤◌, �
 use Rattle.std.specs.Prelude.{IfOk, IsErrAnd}
 use Rattle.std.specs.Io.KnownBytes.{Appends}
 use Rattle.std.proofs.KnownBytes.{Appends-nil}
-use Rattle.gtfs_devices.specs.Device.{Rises}
+use Rattle.gtfs_devices.specs.Device.{counted}
 use Rattle.gtfs_devices.specs.Folder.{Store}
 use Rattle.gtfs_cli.specs.Failures.{FailedNowhere}
 use Rattle.gtfs_cli.specs.Judging.{Judged}
@@ -150,9 +150,9 @@ pub prints-whole : {A : Type 0} (W C D : List ℕ → Type 0) (Cause : Refusal �
 prints-whole W C D Cause a b x sent same = record { printed = sent; left = tt; refused = tt; told = tt; grows = omega (arith, same); no_failure = same }
 
 -- the output failed after a part of it
-pub prints-cut : {A : Type 0} (W C D : List ℕ → Type 0) (Cause : Refusal → Type 0) (a b : Output) → SendsSome C a b → Rises a.failures b.failures → a.failures ≤ b.failures
+pub prints-cut : {A : Type 0} (W C D : List ℕ → Type 0) (Cause : Refusal → Type 0) (a b : Output) → SendsSome C a b → b.failures ≡ counted a.failures → a.failures ≤ b.failures
     → PrintsText W C D Cause {T = A} a b (Err OutputFailed)
-prints-cut W C D Cause a b sent rises grows = record { printed = tt; left = sent; refused = inr rises; told = tt; grows = grows; no_failure = tt }
+prints-cut W C D Cause a b sent once grows = record { printed = tt; left = sent; refused = inr once; told = tt; grows = grows; no_failure = tt }
 
 -- memory ran out after a part of it
 pub prints-stopped : {A : Type 0} (W C D : List ℕ → Type 0) (Cause : Refusal → Type 0) (a b : Output) → SendsSome D a b → b.failures ≡ a.failures

@@ -3,7 +3,7 @@ use Rattle.std.proofs.Common.{◌≡◌, ◌≤◌, ℕ, Bool, List, [], Option,
 use Rattle.std.specs.Prelude.{IfOk, IsErrAnd}
 use Rattle.std.specs.Io.KnownBytes.{Appends, Keeps}
 use Rattle.clap.specs.Words.{Text, takes}
-use Rattle.gtfs_devices.specs.Device.{Rises}
+use Rattle.gtfs_devices.specs.Device.{counted}
 use Rattle.gtfs_devices.specs.Folder.{Store}
 use Rattle.gtfs_table.proofs.FolderFacts.{calls-none}
 use Rattle.gtfs_commands.specs.Words.{gtfs_app, AreForHelpOrVersion, IsFaultOf}
@@ -31,13 +31,13 @@ answer-sent words a b text bytes is same out quiet =
 
 -- the output failed before the whole of it went out
 pub answer-cut : {A : Type 0} (words : List Text) (a b : Output) (text bytes : List ℕ) → IsAnswer words text → bytes ≡ text → (n : ℕ) → Appends a.told b.told (take n bytes)
-    → Rises a.failures b.failures → a.failures ≤ b.failures → (r : Result A Refusal) → IsErrAnd r (λ y. y ≡ OutputFailed)
+    → b.failures ≡ counted a.failures → a.failures ≤ b.failures → (r : Result A Refusal) → IsErrAnd r (λ y. y ≡ OutputFailed)
     → PrintsText (IsAnswer words) (Begins (IsAnswer words)) (or_none (Begins (IsAnswer words))) (IsWordsCause words) a b r
-answer-cut {A} words a b text bytes is same n out rises grows r failed =
+answer-cut {A} words a b text bytes is same n out once grows r failed =
     let begun = some-sent a.told b.told text n (subst (λ (t : List ℕ). Appends a.told b.told (take n t)) same out) in
     prints-up {A = A} (IsAnswer words) (Begins (IsAnswer words)) (or_none (Begins (IsAnswer words))) (IsWordsCause words) a b r OutputFailed failed
     (prints-cut (IsAnswer words) (Begins (IsAnswer words)) (or_none (Begins (IsAnswer words))) (IsWordsCause words) a b
-    (begun.sent, record { text = text; left = begun.left; is_text = is; whole = begun.whole }, begun.out) rises grows)
+    (begun.sent, record { text = text; left = begun.left; is_text = is; whole = begun.whole }, begun.out) once grows)
 
 -- ---- what a command ends with whose words were not read
 

@@ -3,9 +3,9 @@ use Rattle.std.specs.Prelude.{option_map}
 use Rattle.gtfs_cli.specs.Boards.{request_of}
 use Rattle.gtfs_cli.specs.Requests.{RequestTexts, StopRequest}
 use Rattle.gtfs_cli.specs.declared.commands.requests.StopRequest.{StopRequest as LentRequest}
-use Rattle.gtfs_cli.specs.declared.commands.requests.RequestTexts.{RequestTexts as LentTexts}
+use Rattle.gtfs_cli.specs.declared.commands.values.RequestTexts.{RequestTexts as LentTexts}
 
--- the texts that stand in a line
+-- the texts of a request
 abbrev pub request_texts_of : LentTexts → RequestTexts
 request_texts_of t = record {
   stop = t.stop.now;

@@ -46,10 +46,13 @@ after_of (Some text) = option_map Some (result_ok (key_of text))
 
 -- ---- the values of all options
 
--- the options whose texts are judged_board, in the order of the usage, and whether each has a value
+-- the options whose texts are judged, in the order of the usage, and whether each has a value
+abbrev pub judged_values : List ℕ → List ℕ → Option (List ℕ) → Option (List ℕ) → List (Text × Bool)
+judged_values from until limit after = (codes "--from", is_some (moment_of from)) ∷ (codes "--until", is_some (moment_of until))
+    ∷ (codes "--limit", is_some (limit_of limit)) ∷ (codes "--after", is_some (after_of after)) ∷ []
+
 abbrev pub judged_board : BoardTexts → List (Text × Bool)
-judged_board asked = (codes "--from", is_some (moment_of asked.from)) ∷ (codes "--until", is_some (moment_of asked.until))
-    ∷ (codes "--limit", is_some (limit_of asked.limit)) ∷ (codes "--after", is_some (after_of asked.after)) ∷ []
+judged_board asked = judged_values asked.from asked.until asked.limit asked.after
 
 -- the first of them that has none
 abbrev pub first_bad : BoardTexts → Option Text

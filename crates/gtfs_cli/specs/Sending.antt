@@ -2,7 +2,7 @@
 use Rattle.std.specs.Prelude.{◌≡◌, ◌≤◌, ◌⊎◌, ◌++◌, ℕ, List, [], Option, Result, IfErr, IsErrOf, OnErr, OnOk}
 use Rattle.std.specs.Io.KnownBytes.{Appends}
 use Rattle.std.specs.List.{flat_map}
-use Rattle.gtfs_devices.specs.Device.{Rises}
+use Rattle.gtfs_devices.specs.Device.{counted, Rises}
 use Rattle.gtfs_cli.specs.Refusals.{TellsOutput}
 use Rattle.gtfs_cli.specs.declared.commands.refusal.Refusal.{Refusal}
 use Rattle.gtfs_cli.specs.declared.commands.refusal.Refusal.TheVariants.{OutputFailed, OutOfMemory}
@@ -21,7 +21,7 @@ Sends before after text = Appends before.told after.told text ⊎ (SendsBeginnin
 
 -- why a text was not sent out; the counts are those of the output's failures, before and after
 abbrev pub IsSendingCause : ℕ → ℕ → Refusal → Type 0
-IsSendingCause before after OutputFailed = Rises before after
+IsSendingCause before after OutputFailed = after ≡ counted before
 IsSendingCause before after OutOfMemory = after ≡ before
 IsSendingCause before after _ = ⊥
 

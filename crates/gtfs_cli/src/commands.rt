@@ -26,6 +26,7 @@ mod merge_values;
 mod messages;
 mod moments;
 mod names;
+mod opening;
 mod paths;
 mod problems;
 mod questions;

@@ -1,7 +1,7 @@
 -- A conversation over an input and an output: lines are asked for one by one, and each is answered before the next is asked for.
 -- Where the lines of an input or what went out are not known, as of a terminal, nothing is said of them.
 use Rattle.std.specs.Prelude.{ℕ, ◌+◌, ◌≡◌, ◌⊎◌, ⊤, Bool, true, false, List, [], ◌∷◌, ◌++◌, length, map, take, Option, Some, IfSome}
-use Rattle.gtfs_devices.specs.Device.{counted, Rises}
+use Rattle.gtfs_devices.specs.Device.{counted}
 use Rattle.gtfs_conversation.specs.declared.conversation.ConversationFault.{ConversationFault}
 use Rattle.gtfs_conversation.specs.declared.conversation.ConversationFault.TheVariants.{Input, Output}
 
@@ -111,7 +111,7 @@ pub record AnswersSome (IsAnswer IsPart : List ℕ → List ℕ → Type 0) (tol
   pub fails : FailsSo IsPart told before after es part fault
   pub out : text ≡ said es ++ part
 
--- whether the output's count of failures rose
+-- how often the output failed: once where it is to blame
 abbrev pub CountsSo : ℕ → ℕ → ConversationFault → Type 0
 CountsSo before after Input = after ≡ before
-CountsSo before after Output = Rises before after
+CountsSo before after Output = after ≡ counted before

@@ -1,6 +1,6 @@
 ghost use Rattle.std.specs.Prelude.{◌≡◌, ◌≤◌, ℕ, List, OnOk, OnErr};
 ghost use Rattle.std.specs.Io.KnownBytes.{Appends};
-ghost use Rattle.gtfs_devices.specs.Device.{Rises};
+ghost use Rattle.gtfs_devices.specs.Device.{counted};
 
 use gtfs_devices::{Failed, Out};
 
@@ -15,13 +15,13 @@ pub trait Answer {
     /// Prints an answer to a line. A line that asks for nothing is answered too.
     ///
     /// # Errors
-    /// `Failed` where the output failed: a part of an answer went out.
+    /// `Failed` where the output failed, once: a part of an answer went out.
     fn answer<O: Out>(&self, line: &[u8], out: &mut O) -> Result<(), Failed>
         ensures whole { OnOk result ((text : List ℕ) × is_answer self.now line.now text
             × Appends (O.told out.old) (O.told out.new) text) }
         ensures part { OnErr result ((text : List ℕ) × is_part self.now line.now text
             × Appends (O.told out.old) (O.told out.new) text) }
-        ensures counted { OnErr result (Rises (O.failure_count out.old) (O.failure_count out.new)) }
+        ensures counted { OnErr result (O.failure_count out.new ≡ counted (O.failure_count out.old)) }
         ensures grows { O.failure_count out.old ≤ O.failure_count out.new }
         ensures no_failure { OnOk result (O.failure_count out.new ≡ O.failure_count out.old) };
 }

@@ -1,7 +1,7 @@
 //! What answers with the line and LF.
 ghost use Rattle.std.specs.Prelude.{◌≡◌, ◌≤◌, ◌++◌, ◌∷◌, [], ℕ, List, OnOk, OnErr};
 ghost use Rattle.std.specs.Io.KnownBytes.{Appends};
-ghost use Rattle.gtfs_devices.specs.Device.{Rises};
+ghost use Rattle.gtfs_devices.specs.Device.{counted};
 
 use gtfs_conversation::Answer;
 use gtfs_devices::{Failed, Out, write_text};
@@ -25,7 +25,7 @@ impl Answer for Echo {
 fn say<O: Out>(out: &mut O, text: &[u8]) -> Result<(), Failed>
     ensures whole { OnOk result (Appends (O.told out.old) (O.told out.new) text.now) }
     ensures part { OnErr result ((part : List ℕ) × Appends (O.told out.old) (O.told out.new) part) }
-    ensures counted { OnErr result (Rises (O.failure_count out.old) (O.failure_count out.new)) }
+    ensures counted { OnErr result (O.failure_count out.new ≡ counted (O.failure_count out.old)) }
     ensures grows { O.failure_count out.old ≤ O.failure_count out.new }
     ensures no_failure { OnOk result (O.failure_count out.new ≡ O.failure_count out.old) }
 {

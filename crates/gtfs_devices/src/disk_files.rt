@@ -3,7 +3,7 @@ ghost use Rattle.gtfs_devices.specs.Disk.{path_in, FillsMade, IsWritable, LacksD
 
 use crate::file_reader::FileReader;
 use crate::folders::FolderFault;
-use crate::read_within::{lend_within, read_within};
+use crate::read_within::{lend_within, pass_within, read_within};
 use crate::system::{Entry, System};
 use crate::write_whole::write_whole;
 use gtfs_field::OutOfMemory;
@@ -31,11 +31,8 @@ pub(crate) fn read_file<S: System>(
         → LacksDir (S.finds system.now) (S.looks system.now) dir.now }
     ensures refused { IfErr result RefusesFile }
 {
-    match open_file(system, alloc, dir, name)? {
-        Some(mut file) => {
-            let size = size_hint(&file, limit);
-            Ok(Some(read_within(alloc, &mut file, limit, size)?))
-        }
+    match open_within(system, alloc, dir, name, limit)? {
+        Some((mut file, size)) => Ok(Some(read_within(alloc, &mut file, limit, size)?)),
         None => Ok(None),
     }
 }
@@ -61,13 +58,48 @@ pub(crate) fn lend_file<S: System, R: FileReader>(
         → LacksDir (S.finds system.now) (S.looks system.now) dir.now }
     ensures refused { IfErr result RefusesFile }
 {
-    match open_file(system, alloc, dir, name)? {
-        Some(mut file) => {
-            reader.expect(size_hint(&file, limit))?;
+    match open_within(system, alloc, dir, name, limit)? {
+        Some((mut file, size)) => {
+            reader.expect(size)?;
             lend_within(&mut file, limit, reader)?;
             Ok(true)
         }
         None => Ok(false),
+    }
+}
+
+// A folder's file, of which nothing is read yet, with how many bytes to make room for,
+// or None where the folder has no entry of that name.
+//
+// A file that is told to be longer than the limit is first gone through without keeping any of it,
+// so that one over the limit is too large in little memory as well.
+fn open_within<S: System>(
+    system: &S,
+    alloc: Global,
+    dir: &str,
+    name: &str,
+    limit: u64,
+) -> Result<Option<(S::File, usize)>, FolderFault>
+    ensures opened { IfOk result
+        (λ opened. OpensOrLacks (S.finds system.now) (S.looks system.now) (S.opens system.now)
+        dir.now (path_in dir.now name.now) (option_map (λ of. of.0) opened)) }
+    ensures large { IsErrOf result FolderFault.TooLarge
+        → OverflowsOpened (S.finds system.now) (S.opens system.now) S.File.remaining
+        (path_in dir.now name.now) limit }
+    ensures no_folder { IsErrOf result FolderFault.NoFolder
+        → LacksDir (S.finds system.now) (S.looks system.now) dir.now }
+    ensures refused { IfErr result RefusesFile }
+{
+    let Some(mut file) = open_file(system, alloc, dir, name)? else {
+        return Ok(None);
+    };
+    if let Some(size) = size_within(&file, limit) {
+        return Ok(Some((file, size)));
+    }
+    pass_within(&mut file, limit)?;
+    match open_file(system, alloc, dir, name)? {
+        Some(file) => Ok(Some((file, 0))),
+        None => Ok(None),
     }
 }
 
@@ -155,11 +187,13 @@ fn folder_stands<S: System>(system: &S, dir: &str) -> Result<(), FolderFault>
     }
 }
 
-// How many bytes to make room for, as far as the file system tells it.
-fn size_hint<F: OpenFile>(file: &F, limit: u64) -> usize {
+// How many bytes to make room for, as far as the file system tells it,
+// or None where it tells more than the limit.
+fn size_within<F: OpenFile>(file: &F, limit: u64) -> Option<usize> {
     match file.metadata() {
-        Ok(found) => found.len().min(limit) as usize,
-        Err(_) => 0,
+        Ok(found) if found.len() > limit => None,
+        Ok(found) => Some(found.len() as usize),
+        Err(_) => Some(0),
     }
 }
 

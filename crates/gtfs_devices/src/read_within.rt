@@ -1,8 +1,9 @@
-ghost use Rattle.std.specs.Prelude.{◌≡◌, ◌≤◌, ◌+◌, [], vec_len, IfOk, IfErr, IfSome, IsErrOf, OnOk};
+ghost use Rattle.std.specs.Prelude.{◌≡◌, ◌≤◌, ◌+◌, [], vec_len, ⊤, IfOk, IfErr, IfSome, IsErrOf, OnOk};
 ghost use Rattle.gtfs_devices.specs.Disk.{RefusesReading, GivesAtMost, GivesMoreThan, TakesWhole};
 
 use crate::file_reader::FileReader;
 use crate::folders::FolderFault;
+use gtfs_field::OutOfMemory;
 use std::alloc::Global;
 use std::io::{ErrorKind, Read};
 
@@ -28,6 +29,33 @@ pub(crate) fn read_within<F: Read>(
     let mut bytes = Vec::with_capacity(alloc, size)?;
     lend_within(file, limit, &mut bytes)?;
     Ok(bytes)
+}
+
+// A reader that keeps nothing of what it takes.
+#[derive(Drop)]
+struct Unkept;
+
+impl FileReader for Unkept {
+    ghost has_taken = { λ _ _. ⊤ };
+
+    fn expect(&mut self, _size: usize) -> Result<(), OutOfMemory> {
+        Ok(())
+    }
+
+    fn take(&mut self, _piece: &[u8]) -> Result<(), OutOfMemory> {
+        Ok(())
+    }
+}
+
+// Goes through all that a file has left, as `lend_within` does, and takes no memory.
+pub(crate) fn pass_within<F: Read>(file: &mut F, limit: u64) -> Result<(), FolderFault>
+    ensures whole { OnOk result (TakesWhole limit (F.remaining file.old) (λ _. ⊤)) }
+    ensures large { IsErrOf result FolderFault.TooLarge
+        → GivesMoreThan limit (F.remaining file.old) (F.remaining file.new) }
+    ensures takes { GivesAtMost (limit + 1) (F.remaining file.old) (F.remaining file.new) }
+    ensures faults { IfErr result RefusesReading }
+{
+    lend_within(file, limit, &mut Unkept)
 }
 
 // Hands all that a file has left to a reader, chunk after chunk, where that is no more than the

@@ -10,7 +10,7 @@ use Rattle.std.proofs.lemmas.Cmp.{nat_cmp_total}
 use Rattle.std.proofs.lemmas.List.{get_or-map, get_or-set_other, get_or-set_same, get_or_default, map-append, map-set}
 use Rattle.std.proofs.lemmas.List.Elements.{All-cons, All-nil, All-push, All-set}
 use Rattle.std.proofs.lemmas.List.Quantifiers.{all_pairs_push}
-use Rattle.std.proofs.lemmas.Option.{slice_get-get_or, slice_get_within}
+use Rattle.std.proofs.lemmas.Option.{get_or_from_slice_get, slice_get-get_or, slice_get_within}
 use Rattle.gtfs_field.proofs.ListFacts.{some_of}
 use Rattle.gtfs_field.proofs.OrderingFacts.{nat-less}
 use Rattle.gtfs_columns.specs.Values.{if_there}
@@ -30,7 +30,8 @@ use Rattle.gtfs_times.specs.declared.times.Times.{Times}
 use Rattle.gtfs_runs.specs.Counts.{tally}
 use Rattle.gtfs_runs.specs.StopIndex.{has_departure_row, departure_row_cmp, is_this_row}
 use Rattle.gtfs_runs.specs.declared.stop_index.DepartureRow.{DepartureRow}
-use Rattle.gtfs_runs.specs.steps.AtStops.{StandBefore, at_stop, departs_of, leaves_stop}
+use Rattle.gtfs_runs.specs.steps.AtStops.{StandBefore, at_stop, departs_of, leaves_stop, position_of}
+use Rattle.gtfs_runs.specs.steps.Noted.{IsNoted, noted_row}
 use Rattle.gtfs_runs.proofs.ContentEvents.{past_trips, row_at}
 use Rattle.gtfs_runs.proofs.PlaceFacts.{same_stop}
 use Rattle.gtfs_runs.proofs.Pushes.{pushed-more}
@@ -59,12 +60,12 @@ never true = refl
 never false = refl
 
 -- the list of its stop gets one more
-pub row_added : (p : Parts) (u : Trip) (rows : List StopRow) (fs : List Frequency) (t n : ℕ) (d : StopRow) (old new : List (List DepartureRow)) (x : DepartureRow) → n < length rows
-    → is_departure_row (trip_of p u rows fs) (stop_row_of p (get_or rows n d)) ≡ true → x ≡ record { trip = t; row = n }
+pub row_added : (p : Parts) (u : Trip) (rows : List StopRow) (fs : List Frequency) (t n : ℕ) (d y : StopRow) (old new : List (List DepartureRow)) (x : DepartureRow) → n < length rows
+    → is_departure_row (trip_of p u rows fs) (stop_row_of p (get_or rows n d)) ≡ true → x ≡ noted_row t n y
     → (get_or rows n d).stop_id.0 < length old → new ≡ set old (get_or rows n d).stop_id.0 (at_stop old (get_or rows n d).stop_id.0 ++ x ∷ [])
     → (s v r : ℕ) → tally (is_this_row v r) (at_stop new s)
     ≡ tally (is_this_row v r) (at_stop old s) + cond ((v == t) && (r == n) && if_there (slice_get rows r) (leaves_stop p u rows fs s)) 1 0
-row_added p u rows fs t n d old new x within departs is known pushed s v r =
+row_added p u rows fs t n d y old new x within departs is known pushed s v r =
     let stop = (get_or rows n d).stop_id.0 in
     let asked : ((v == t) && (r == n) && (stop == s)) ≡ ((v == t) && (r == n) && if_there (slice_get rows r) (leaves_stop p u rows fs s)) =
     ap (λ b. (v == t) && (r == n) && (b && (stop == s))) (sym departs) ∙ sym (asked_here (v == t) (leaves_stop p u rows fs s) rows n r d within) in
@@ -191,20 +192,20 @@ trip_within p s t r holds = elim (cases_Bool (nat_lt t (length p.trips))) [
 pub rows_total : IsTotalOrder departure_row_cmp
 rows_total = search (comparing, rules) depth 20
 
-pub later_row : (t n : ℕ) → departure_row_cmp (record { trip = t; row = n }) (record { trip = t; row = n + 1 }) ≡ Less
+pub later_row : (t n : ℕ) → departure_row_cmp (position_of t n) (position_of t (n + 1)) ≡ Less
 later_row t n = rw (tied_itself nat_cmp_total t) (nat-less n (n + 1) (omega arith))
 
-later_trip : (t n : ℕ) → departure_row_cmp (record { trip = t; row = n }) (record { trip = t + 1; row = 0 }) ≡ Less
+later_trip : (t n : ℕ) → departure_row_cmp (position_of t n) (position_of (t + 1) 0) ≡ Less
 later_trip t n = rw (nat-less t (t + 1) (omega arith)) refl
 
 -- what stands before a position stands before a later one
-stand_later : (t n v m : ℕ) (xs : List DepartureRow) → departure_row_cmp (record { trip = t; row = n }) (record { trip = v; row = m }) ≡ Less → StandBefore t n xs → StandBefore v m xs
+stand_later : (t n v m : ℕ) (xs : List DepartureRow) → departure_row_cmp (position_of t n) (position_of v m) ≡ Less → StandBefore t n xs → StandBefore v m xs
 stand_later t n v m xs less stand = record {
   in_order = stand.in_order;
-  before = λ k d within. rows_total.trans (get_or xs k d) (record { trip = t; row = n }) (record { trip = v; row = m }) (stand.before k d within) less;
+  before = λ k d within. rows_total.trans (get_or xs k d) (position_of t n) (position_of v m) (stand.before k d within) less;
 }
 
-all_later : (t n v m : ℕ) (lists : List (List DepartureRow)) → departure_row_cmp (record { trip = t; row = n }) (record { trip = v; row = m }) ≡ Less
+all_later : (t n v m : ℕ) (lists : List (List DepartureRow)) → departure_row_cmp (position_of t n) (position_of v m) ≡ Less
     → All (StandBefore t n) lists → All (StandBefore v m) lists
 all_later t n v m lists less all = λ k d within. stand_later t n v m (get_or lists k d) less (all k d within)
 
@@ -215,20 +216,44 @@ pub trip_later : (t n : ℕ) (lists : List (List DepartureRow)) → All (StandBe
 trip_later t n lists = all_later t n (t + 1) 0 lists (later_trip t n)
 
 -- the row at the position comes last
-pub row_last : (t n s : ℕ) (x : DepartureRow) (old new : List (List DepartureRow)) → x ≡ record { trip = t; row = n } → s < length old
+pub row_last : (t n s : ℕ) (y : StopRow) (x : DepartureRow) (old new : List (List DepartureRow)) → x ≡ noted_row t n y → s < length old
     → new ≡ set old s (at_stop old s ++ x ∷ []) → All (StandBefore t n) old → All (StandBefore t (n + 1)) new
-row_last t n s x old new is within pushed all =
+row_last t n s y x old new is within pushed all =
     let own = at_stop old s in
     let stand = all s [] within in
     let first = stand_later t n t (n + 1) own (later_row t n) stand in
     let last : StandBefore t (n + 1) (own ++ x ∷ []) = record {
       in_order = all_pairs_push (λ a b. departure_row_cmp a b ≡ Less) own x stand.in_order (λ k d inside. ap (departure_row_cmp (get_or own k d)) is ∙ stand.before k d inside);
-      before = All-push (λ y. departure_row_cmp y (record { trip = t; row = n + 1 }) ≡ Less) own x first.before
-          (ap (λ y. departure_row_cmp y (record { trip = t; row = n + 1 })) is ∙ later_row t n);
+      before = All-push (λ y. departure_row_cmp y (position_of t (n + 1)) ≡ Less) own x first.before
+          (ap (λ y. departure_row_cmp y (position_of t (n + 1))) is ∙ later_row t n);
     } in
     subst (All (StandBefore t (n + 1))) (sym pushed) (All-set (StandBefore t (n + 1)) old s (own ++ x ∷ []) last (row_later t n old all))
 
+-- what is noted of a stop time at a position of its trip is right
+pub noted_here : (p : Parts) (t n : ℕ) (rows : List StopRow) (y : StopRow) (x : DepartureRow) → slice_get (stop_rows_by_trip p) t ≡ Some rows → n < length rows → y ≡ get_or rows n y → x ≡ noted_row t n y
+    → IsNoted p x
+noted_here p t n rows y x at within is noted = λ others d there inside.
+    let lists = stop_rows_by_trip p in
+    let same : others ≡ rows = sym (get_or_from_slice_get lists x.trip others [] there) ∙ ap (λ z. get_or lists z.trip []) noted ∙ get_or_from_slice_get lists t rows [] at in
+    let item : get_or others x.row d ≡ y = (λ i. get_or (same i) (noted i).row d) ∙ get_or_default rows n d y within ∙ sym is in
+    noted ∙ (λ i. noted_row (sym noted i).trip (sym noted i).row (sym item i))
+
+-- those of one list
+pub noted_at : (p : Parts) (lists : List (List DepartureRow)) (s : ℕ) (own : List DepartureRow) → slice_get lists s ≡ Some own → All (All (IsNoted p)) lists → All (IsNoted p) own
+noted_at p lists s own at all = subst (All (IsNoted p)) (get_or_from_slice_get lists s own own at) (all s own (slice_get_within lists s own at))
+
+-- one list gets one more of these
+pub noted_last : (p : Parts) (s : ℕ) (x : DepartureRow) (old new : List (List DepartureRow)) → IsNoted p x → s < length old → new ≡ set old s (at_stop old s ++ x ∷ []) → All (All (IsNoted p)) old
+    → All (All (IsNoted p)) new
+noted_last p s x old new is within pushed all =
+    let own = at_stop old s in
+    subst (All (All (IsNoted p))) (sym pushed) (All-set (All (IsNoted p)) old s (own ++ x ∷ []) (All-push (IsNoted p) own x (all s [] within) is) all)
+
 -- ---- before the first trip
+
+pub nothing_noted : {X : Type 0} (p : Parts) (xs : List X) → All (All (IsNoted p)) (map (λ _. []) xs)
+nothing_noted p [] = All-nil (All (IsNoted p))
+nothing_noted p (x ∷ xs) = All-cons (All (IsNoted p)) [] (map (λ _. []) xs) (All-nil (IsNoted p)) (nothing_noted p xs)
 
 pub nothing_at : {X : Type 0} (xs : List X) (s : ℕ) → at_stop (map (λ _. []) xs) s ≡ []
 nothing_at [] s = refl
@@ -239,7 +264,7 @@ pub nothing_stands : {X : Type 0} (xs : List X) (t r : ℕ) → All (StandBefore
 nothing_stands [] t r = All-nil (StandBefore t r)
 nothing_stands (x ∷ xs) t r =
     All-cons (StandBefore t r) [] (map (λ _. []) xs)
-    (record { in_order = λ i j d before within. absurd (omega (arith, within)); before = All-nil (λ y. departure_row_cmp y (record { trip = t; row = r }) ≡ Less) })
+    (record { in_order = λ i j d before within. absurd (omega (arith, within)); before = All-nil (λ y. departure_row_cmp y (position_of t r) ≡ Less) })
     (nothing_stands xs t r)
 
 -- one more list is empty

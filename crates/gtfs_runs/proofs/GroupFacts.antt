@@ -12,7 +12,7 @@ use Rattle.std.proofs.lemmas.Cmp.{nat_cmp_total}
 use Rattle.std.proofs.lemmas.List.{get_or-map, get_or_default, length-map}
 use Rattle.std.proofs.lemmas.List.Elements.{All-push}
 use Rattle.std.proofs.lemmas.List.Sorted.{All-permutation, ranks_by, sorted_far}
-use Rattle.std.proofs.lemmas.Option.{get_or_from_slice_get}
+use Rattle.std.proofs.lemmas.Option.{get_or_from_slice_get, slice_get-get_or}
 use Rattle.gtfs_field.proofs.ListFacts.{some_of}
 use Rattle.gtfs_field.proofs.NumberFacts.{number_itself as itself}
 use Rattle.gtfs_field.proofs.OrderingFacts.{less as is_less, nat-less}
@@ -30,7 +30,7 @@ use Rattle.gtfs_runs.specs.Lanes.{has_periods}
 use Rattle.gtfs_runs.specs.declared.stop_lanes.listed.Listed.{Listed}
 use Rattle.gtfs_runs.specs.declared.stop_index.indexed_trips.IndexedTrip.{IndexedTrip}
 use Rattle.gtfs_runs.specs.steps.Courses.{IsListed, stopping_of}
-use Rattle.gtfs_runs.specs.steps.Groups.{AreIndexedTrips, AreMarked, AreOfTrips, AreStarted, Group, HaveGroups, group_cmp, group_of, stops_in, trip_group}
+use Rattle.gtfs_runs.specs.steps.Groups.{AreIndexedTrips, AreMarked, AreOfTrips, AreServing, AreStarted, Group, HaveGroups, group_cmp, group_of, stops_in, trip_group}
 use Rattle.gtfs_runs.specs.steps.Numbers.{AreNumbered}
 use Rattle.gtfs_runs.specs.steps.Passings.{first_left}
 use Rattle.gtfs_runs.proofs.Chunks.{all_mapped}
@@ -233,12 +233,13 @@ module _ (p : Parts) (sound : IsSoundParts p) (xs sorted : List GroupedTrip) (sa
       inside t true is count some = ltb-true t (length p.trips) is
       inside t false is count some = absurd (omega (arith, count, some))
 
-  pub are_indexed : (trips : List IndexedTrip) → HaveGroups (length sorted) sorted trips → AreStarted p trips → AreMarked p trips → AreIndexedTrips p trips
-  are_indexed trips numbers started marked = record {
+  pub are_indexed : (trips : List IndexedTrip) → HaveGroups (length sorted) sorted trips → AreServing p trips → AreStarted p trips → AreMarked p trips → AreIndexedTrips p trips
+  are_indexed trips numbers serving started marked = record {
     groups = λ t u e within inside.
         found_at (λ x. t == x.trip.0) sorted _ (there t within) (λ i first is.
         found_at (λ x. u == x.trip.0) sorted _ (there u inside) (λ j second has.
         pair t u e i j first second is has));
+    serving = serving;
     starts = started;
     marks = marked;
   }
@@ -258,7 +259,7 @@ module _ (p : Parts) (sound : IsSoundParts p) (xs sorted : List GroupedTrip) (sa
 
 -- an element that stands nowhere
 abbrev pub no_trip : IndexedTrip
-no_trip = record { group = 0; start = 0; has_frequencies = false }
+no_trip = record { group = 0; service = 0; start = 0; has_frequencies = false }
 
 -- when a trip starts
 pub starts_at : (p : Parts) → IsSoundParts p → (trips : List IndexedTrip) → AreStarted p trips → (t : ℕ) (e : IndexedTrip) → t < length p.trips
@@ -268,6 +269,14 @@ starts_at p sound trips started t e within =
     let size : length rows ≡ length p.trips = omega (arith, length-parts p.stop_times.starts p.stop_times.rows, sound.stop_rows.0) in
     let same : length trips ≡ length rows = sym (length-map trips (λ x. x.start)) ∙ ap length started ∙ length-map rows first_left in
     sym (get_or-map (λ x. x.start) trips t e 0 (omega (arith, within, size, same))) ∙ ap (λ l. get_or l t 0) started ∙ get_or-map first_left rows t [] 0 (omega (arith, within, size))
+
+-- the service that it has
+pub served_at : (p : Parts) (trips : List IndexedTrip) → AreServing p trips → (t : ℕ) (e : IndexedTrip) → t < length p.trips → (get_or trips t e).service ≡ (trip_group p t).0
+served_at p trips serving t e within =
+    let same : length trips ≡ length p.trips = sym (length-map trips (λ x. x.service)) ∙ ap length serving ∙ length-map p.trips (λ u. u.service_id.0) in
+    let u = some_of p.trips t within in
+    sym (get_or-map (λ x. x.service) trips t e 0 (omega (arith, within, same))) ∙ ap (λ l. get_or l t 0) serving ∙ get_or-map (λ v. v.service_id.0) p.trips t u 0 within
+    ∙ sym (ap (λ o. unwrap_or (option_map (λ v. v.service_id.0) o) 0) (slice_get-get_or p.trips t u within))
 
 -- whether it has frequencies
 pub marked_at : (p : Parts) → IsSoundParts p → (trips : List IndexedTrip) → AreIndexedTrips p trips → (t : ℕ) (e : IndexedTrip) → t < length p.trips

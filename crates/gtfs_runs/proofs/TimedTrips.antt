@@ -1,5 +1,5 @@
 -- The stop times of a trip under a choice of times: its own, or those with their times filled.
-use Rattle.std.proofs.Common.{◌≡◌, ◌∙◌, ◌+◌, ◌++◌, ◌<◌, ℕ, Bool, true, false, List, [], ◌∷◌, length, map, Option, Some, None, get_or, refl, sym, ap, subst, arith}
+use Rattle.std.proofs.Common.{◌≡◌, ◌∙◌, ◌+◌, ◌<◌, ℕ, Bool, true, false, List, [], ◌∷◌, length, map, Option, Some, None, get_or, refl, sym, ap, subst, arith}
 use Rattle.std.specs.Prelude.{◌&&◌, is_some, unwrap_or, option_map, if◌then◌else◌}
 use Rattle.std.specs.List.{enumerate_from, list_any, slice_get}
 use Rattle.std.proofs.lemmas.Bool.{false≢true}
@@ -17,11 +17,9 @@ use Rattle.gtfs_times.proofs.TimedContent.{by_trip}
 use Rattle.gtfs_times.specs.TimedRows.{filled_stop_time, filled_stop_times, is_interpolated, lacks_time, position_time, timed_parts, timed_stop_times}
 use Rattle.gtfs_times.specs.declared.times.Times.{Times}
 use Rattle.gtfs_times.specs.declared.times.Times.TheVariants as times
-use Rattle.gtfs_runs.specs.declared.stop_index.DepartureRow.{DepartureRow}
 use Rattle.gtfs_runs.specs.declared.stop_lanes.passing.Passing.{Passing}
 use Rattle.gtfs_runs.specs.steps.Groups.{stops_in}
 use Rattle.gtfs_runs.specs.steps.Passings.{AreTripTimes, first_left, passings_of}
-use Rattle.gtfs_runs.specs.steps.Places.{passing_of}
 use Rattle.gtfs_runs.proofs.TripTimes.{left_within, starts_before}
 
 pub trip_times : (p : Parts) → IsSoundParts p → (t : ℕ) (rs : List StopRow) → slice_get (stop_rows_by_trip p) t ≡ Some rs → AreTripTimes (length p.stops) rs
@@ -66,13 +64,6 @@ pub passed : (choice : Times) (p : Parts) → IsSoundParts p → (t : ℕ) (rs o
 passed choice p sound t rs own place found at is told s u rows fs here there =
     let q = timed_parts choice p in
     told q s u fs here ∙ ap (λ l. passings_of q s u l fs) (same_Some own rows (sym (rows_timed choice p sound t rs own at is) ∙ there))
-
--- the same at these of them, after others
-pub passed_at : (choice : Times) (p : Parts) → IsSoundParts p → (t : ℕ) (rs own : List StopRow) (at_rows : List DepartureRow) (old found : List Passing) → slice_get (stop_rows_by_trip p) t ≡ Some rs
-    → own ≡ timed_stop_times choice rs → ((d : StopRow) → found ≡ old ++ map (passing_of own d) at_rows)
-    → (rows : List StopRow) (d : StopRow) → slice_get (stop_rows_by_trip (timed_parts choice p)) t ≡ Some rows → found ≡ old ++ map (passing_of rows d) at_rows
-passed_at choice p sound t rs own at_rows old found at is told rows d there =
-    told d ∙ ap (λ l. old ++ map (passing_of l d) at_rows) (same_Some own rows (sym (rows_timed choice p sound t rs own at is) ∙ there))
 
 -- ---- their stops are the same
 

@@ -5,6 +5,7 @@ pub mod Finds
 pub mod Lists
 pub mod Apart
 pub mod Whole
+pub mod Noted
 pub mod Numbers
 pub mod AtStops
 pub mod Children

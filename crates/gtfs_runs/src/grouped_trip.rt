@@ -1,40 +1,60 @@
-ghost use Rattle.std.specs.Prelude.{◌≡◌, ◌<◌, Some, length, slice_get};
+ghost use Rattle.std.specs.Prelude.{◌≡◌, ◌<◌, IfOk, length};
 ghost use Rattle.std.specs.List.Sorted.{IsPermutation, IsSorted};
-ghost use Rattle.gtfs_rows.specs.Trips.{stop_rows_by_trip};
-ghost use Rattle.gtfs_runs.specs.steps.Groups.{group_cmp, group_of, list_cmp, stops_in, trip_group};
+ghost use Rattle.gtfs_runs.specs.steps.Groups.{group_cmp, group_of, stops_in, trip_group};
 
+use crate::stop_index::small_number;
 use gtfs_feed::Feed;
+use gtfs_field::OutOfMemory;
 use gtfs_rows::{ServiceNo, StopRow, TripNo};
+use std::alloc::Global;
 use std::cmp::Ordering;
 
 // A trip by its group: its service and its stops.
-#[derive(Clone, Copy)]
-pub(crate) struct GroupedTrip<'a> {
+#[derive(Drop)]
+pub(crate) struct GroupedTrip {
     pub(crate) trip: TripNo,
-    pub(crate) service: ServiceNo,
-    // The stop times of the trip, which the feed lends.
-    pub(crate) rows: &'a [StopRow],
+    service: ServiceNo,
+    // The stops of the trip. Trips are compared often, and their stop times lie far apart, so the
+    // numbers of the stops are kept together.
+    stops: Vec<u32>,
 }
 
-impl<'a> GroupedTrip<'a> {
+impl GroupedTrip {
     // A trip of the feed.
-    pub(crate) fn of(feed: &'a Feed, trip: TripNo) -> GroupedTrip<'a>
+    pub(crate) fn of(alloc: Global, feed: &Feed, trip: TripNo) -> Result<GroupedTrip, OutOfMemory>
         requires { trip.0 < length feed.now.trips }
-        ensures trip { result.trip ≡ trip }
-        ensures rows { slice_get (stop_rows_by_trip feed.now) trip.0 ≡ Some result.rows.now }
-        ensures group { group_of result ≡ trip_group feed.now trip.0 }
+        ensures trip { IfOk result (λ grouped. grouped.trip ≡ trip) }
+        ensures group { IfOk result (λ grouped. group_of grouped ≡ trip_group feed.now trip.0) }
     {
-        GroupedTrip {
+        Ok(GroupedTrip {
             trip,
             service: feed.trip_by_number(trip).service_id,
-            rows: feed.trip_rows(trip),
-        }
+            stops: stops_of(alloc, feed.trip_rows(trip))?,
+        })
+    }
+
+    // The numbers of its stops.
+    pub(crate) fn stops(&self) -> &[u32]
+        ensures { result.now ≡ (group_of self.now).1 }
+    {
+        &self.stops
     }
 }
 
+// The numbers of the stops of these stop times.
+fn stops_of(alloc: Global, rows: &[StopRow]) -> Result<Vec<u32>, OutOfMemory>
+    ensures { IfOk result (λ stops. stops.items ≡ stops_in rows.now) }
+{
+    let mut stops = Vec::with_capacity(alloc, rows.len())?;
+    for row in rows {
+        stops.push(small_number(row.stop_id.0)?)?;
+    }
+    Ok(stops)
+}
+
 // The trips by group.
-pub(crate) fn by_group(mut trips: Vec<GroupedTrip<'_>>) -> Vec<GroupedTrip<'_>>
-    ensures same { IsPermutation trips.entry.items result.items }
+pub(crate) fn by_group(mut trips: Vec<GroupedTrip>) -> Vec<GroupedTrip>
+    ensures same { IsPermutation trips.items result.items }
     ensures in_order { IsSorted (λ x y. group_cmp (group_of x) (group_of y)) result.items }
 {
     trips.sort_unstable_by(|a, b| group_order(a, b));
@@ -42,30 +62,12 @@ pub(crate) fn by_group(mut trips: Vec<GroupedTrip<'_>>) -> Vec<GroupedTrip<'_>>
 }
 
 // Groups compare by service, and then by stops.
-pub(crate) fn group_order(a: &GroupedTrip<'_>, b: &GroupedTrip<'_>) -> Ordering
+pub(crate) fn group_order(a: &GroupedTrip, b: &GroupedTrip) -> Ordering
     ensures { result ≡ group_cmp (group_of a.now) (group_of b.now) }
 {
     let services = a.service.cmp(&b.service);
     if services.is_ne() {
         return services;
     }
-    stop_order(a.rows, b.rows)
-}
-
-// Stops of trips compare like the letters of words.
-fn stop_order(a: &[StopRow], b: &[StopRow]) -> Ordering
-    ensures { result ≡ list_cmp (stops_in a.now) (stops_in b.now) }
-{
-    let (mut left, mut right) = (a, b);
-    while let (Some((stop, left_rest)), Some((other, right_rest))) = (
-        left.split_first(),
-        right.split_first(),
-    ) {
-        let order = stop.stop_id.cmp(&other.stop_id);
-        if order.is_ne() {
-            return order;
-        }
-        (left, right) = (left_rest, right_rest);
-    }
-    left.len().cmp(&right.len())
+    a.stops.cmp(&b.stops)
 }

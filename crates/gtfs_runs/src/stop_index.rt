@@ -1,8 +1,10 @@
-ghost use Rattle.std.specs.Prelude.{◌≡◌, ◌<◌, ◌==◌, ℕ, IfOk, Some, cond, length, slice_get};
+ghost use Rattle.std.specs.Prelude.{◌≡◌, ◌<◌, ◌==◌, ℕ, All, IfOk, Some, cond, length, slice_get};
 ghost use Rattle.gtfs_runs.specs.Counts.{tally};
 ghost use Rattle.gtfs_runs.specs.StopIndex.{AreDepartureRows};
 ghost use Rattle.gtfs_runs.specs.steps.Children.{is_child};
 ghost use Rattle.gtfs_runs.specs.steps.Groups.{AreIndexedTrips};
+ghost use Rattle.gtfs_runs.specs.steps.Noted.{IsNoted, noted_row};
+ghost use Rattle.gtfs_times.specs.TimedRows.{timed_parts};
 
 mod at_stops;
 mod children;
@@ -11,15 +13,16 @@ mod place_rows;
 mod rooms;
 mod rows_by_stop;
 
+use crate::departure_row::left;
 pub(crate) use crate::stop_index::at_stops::small_number;
 use crate::stop_index::children::{Child, Children};
-use crate::stop_index::indexed_trips::indexed_trips;
-pub(crate) use crate::stop_index::indexed_trips::{IndexedTrip, has_frequencies, trip_at};
+use crate::stop_index::indexed_trips::{indexed_trips, trips_of};
+pub(crate) use crate::stop_index::indexed_trips::{IndexedTrip, trip_at};
 pub(crate) use crate::stop_index::place_rows::place_rows;
 use crate::stop_index::rows_by_stop::RowsByStop;
 use gtfs_feed::Feed;
 use gtfs_field::OutOfMemory;
-use gtfs_rows::{StopNo, TripNo};
+use gtfs_rows::{StopNo, StopRow, TripNo};
 use gtfs_times::Times;
 use std::alloc::Global;
 use std::marker::Model;
@@ -30,14 +33,23 @@ use std::marker::Model;
 pub struct DepartureRow {
     trip: u32,
     row: u32,
+    // When the vehicle leaves, and `stop_sequence`: so lanes are made without a look at the stop
+    // times of many trips, which lie far apart.
+    left: u32,
+    sequence: u32,
 }
 
 impl DepartureRow {
-    // The stop time of a trip at a position, both as the index keeps them.
-    pub(crate) fn new(trip: u32, row: u32) -> DepartureRow
-        ensures { result ≡ record { trip = trip; row = row } }
+    // This stop time of a trip at a position, both as the index keeps them.
+    pub(crate) fn new(trip: u32, row: u32, stop_time: &StopRow) -> DepartureRow
+        ensures { result ≡ noted_row trip row stop_time.now }
     {
-        DepartureRow { trip, row }
+        DepartureRow {
+            trip,
+            row,
+            left: left(stop_time),
+            sequence: stop_time.stop_sequence,
+        }
     }
 
     /// The trip.
@@ -53,13 +65,27 @@ impl DepartureRow {
     {
         self.row as usize
     }
+
+    // When the vehicle leaves, in seconds.
+    pub(crate) fn left(&self) -> u32
+        ensures { result ≡ self.now.left }
+    {
+        self.left
+    }
+
+    // `stop_sequence`.
+    pub(crate) fn sequence(&self) -> u32
+        ensures { result ≡ self.now.sequence }
+    {
+        self.sequence
+    }
 }
 
 /// The departure rows of a feed by stop,
 /// of which the lanes of any stop can be made without a look at the other trips.
 ///
-/// It keeps a vector for each stop, eight bytes for each stop time, eight for each stop or platform
-/// with a parent, and twelve for each trip.
+/// It keeps a vector for each stop, sixteen bytes for each stop time, eight for each stop or
+/// platform with a parent, and sixteen for each trip.
 #[derive(Drop)]
 pub struct StopIndex<'a> {
     feed: &'a Feed,
@@ -86,20 +112,22 @@ impl<'a> StopIndex<'a> {
     ///
     /// It looks at each stop time of the feed to see how much room each stop needs, and then at
     /// each for the departure rows, which it does not sort. It sorts the trips by service and
-    /// stops. A trip with times to fill is copied for as long as its departure rows are looked for.
+    /// stops, and until then it keeps four bytes more for each stop time. A trip with times to fill
+    /// is copied for as long as its departure rows are looked for.
     ///
     /// GTFS Schedule Reference, `stop_times.txt`, and `parent_station` of `stops.txt`.
     ///
     /// # Errors
     /// [`OutOfMemory`] where memory ran out, or where the feed has more than 4,294,967,296 stops,
-    /// trips or stop times of a trip.
+    /// services, trips or stop times of a trip.
     pub fn build(alloc: Global, feed: &'a Feed, times: Times) -> Result<StopIndex<'a>, OutOfMemory>
         ensures feed { IfOk result (λ index. index.feed ≡ feed.now) }
         ensures times { IfOk result (λ index. index.times ≡ times) }
     {
-        let rows = RowsByStop::build(alloc, feed, times)?;
+        let (grouped, indexed) = trips_of(alloc, feed)?;
+        let rows = RowsByStop::build(alloc, feed, times, &grouped)?;
         let children = Children::build(alloc, feed)?;
-        let trips = indexed_trips(alloc, feed)?;
+        let trips = indexed_trips(feed, grouped, indexed)?;
         Ok(StopIndex {
             feed,
             times,
@@ -136,6 +164,13 @@ impl<'a> StopIndex<'a> {
     /// It does nothing.
     pub fn soundness(&self)
         ensures { AreDepartureRows self.now.times self.now.feed self.now.rows }
+    {
+        let _rows = &self.rows;
+    }
+
+    // Each departure row has the time and the sequence of its stop time. It does nothing.
+    pub(crate) fn notes(&self)
+        ensures { All (All (IsNoted (timed_parts self.now.times self.now.feed))) self.now.rows }
     {
         let _rows = &self.rows;
     }

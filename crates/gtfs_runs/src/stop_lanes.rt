@@ -77,7 +77,7 @@ impl StopLanes {
     /// and `parent_station` of `stops.txt`.
     ///
     /// # Errors
-    /// [`OutOfMemory`] where memory ran out, or where the feed has more than 4,294,967,296
+    /// [`OutOfMemory`] where memory ran out, or where the feed has more than 4,294,967,296 stops,
     /// services, trips or stop times of a trip.
     pub fn build(
         alloc: Global,
@@ -102,16 +102,15 @@ impl StopLanes {
     /// The lanes of the place of a stop, made of an index: those that [`StopLanes::build`] makes of
     /// its feed under its times. The stop's number is below [`Feed::stop_count`] of that feed.
     ///
-    /// It looks at the departure rows at the place and at no other stop time, but that a trip with
-    /// times to fill is looked at and copied whole. It sorts the events there by numbers, which the
-    /// index has, and compares no stops.
+    /// It looks at the departure rows at the place, as the index has them, and under
+    /// [`Times::Interpolated`] at whether the stop times there have a time. It sorts the events
+    /// there by numbers, which the index has, and compares no stops.
     ///
     /// GTFS Schedule Reference, `stop_times.txt`, `frequencies.txt`,
     /// and `parent_station` of `stops.txt`.
     ///
     /// # Errors
-    /// [`OutOfMemory`] where memory ran out, or where the feed has more than 4,294,967,296
-    /// services.
+    /// [`OutOfMemory`] where memory ran out.
     pub fn from_index(
         alloc: Global,
         index: &StopIndex<'_>,

@@ -11,13 +11,14 @@ ghost use Rattle.gtfs_cli.specs.Refusals.{IsSound};
 ghost use Rattle.gtfs_cli.specs.Sending.{PrintsText};
 
 use crate::commands::board::print_page;
+use crate::commands::opening::open_request;
 use crate::commands::questions::{Question, read_question};
 use crate::commands::refusal::Refusal;
 use crate::commands::requests::StopRequest;
 use crate::commands::send::send;
 use crate::commands::timetable::print_sheets;
 use crate::seen::OutSeen;
-use gtfs_board::{Board, BoardFault, Span, StopIndex};
+use gtfs_board::StopIndex;
 use gtfs_conversation::{Answer, LONGEST_LINE};
 use gtfs_days::Zone;
 use gtfs_table::{Failed, Out, write_text};
@@ -134,43 +135,8 @@ impl Answers<'_> {
             (IsBoardCause f z q)
             (⟦<O as OutSeen>⟧.seen out.old) (⟦<O as OutSeen>⟧.seen out.new) result }
     {
-        let mut board = self.open(request)?;
+        let mut board = open_request(self.alloc, self.index, self.zone, request)?;
         print_page(self.alloc, &mut board, request.values.limit, out)
-    }
-
-    // The board of a request. Its stop is judged first, and then its span.
-    fn open<'w>(&self, request: &StopRequest<'_>) -> Result<Board<'_>, Refusal<'w>>
-        requires times { request.now.values.times ≡ self.now.index.now.times }
-        requires from { IsSound request.now.values.from }
-        requires until { IsSound request.now.values.until }
-        ensures board { IfOk result (λ board. ListsBoard (content_of_parts self.now.index.now.feed)
-            self.now.zone.now request.now.texts.stop.now (request_of request.now.values) board.rest) }
-        ensures zone { IfOk result (λ board. board.zone ≡ self.now.zone.now) }
-        ensures refused { IfErr result (IsBoardCause (content_of_parts self.now.index.now.feed)
-            self.now.zone.now (stop_request_of request.now)) }
-    {
-        let stop = request.texts.stop;
-        if self.index.feed().stop(stop).is_none() {
-            return Err(Refusal::UnknownStop);
-        }
-        let values = &request.values;
-        let span = Span {
-            from: values.from.instant(self.alloc, self.zone)?,
-            until: values.until.instant(self.alloc, self.zone)?,
-        };
-        match Board::open_indexed(
-            self.alloc,
-            self.index,
-            self.zone,
-            stop,
-            span,
-            values.after.as_ref(),
-        ) {
-            Ok(board) => Ok(board),
-            Err(BoardFault::UnknownStop) => Err(Refusal::UnknownStop),
-            Err(BoardFault::BadSpan) => Err(Refusal::UntilBeforeFrom),
-            Err(BoardFault::OutOfMemory) => Err(Refusal::OutOfMemory),
-        }
     }
 }
 

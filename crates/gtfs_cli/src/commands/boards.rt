@@ -15,13 +15,15 @@ ghost use Rattle.gtfs_cli.specs.Sending.{or_none, PrintsText};
 use crate::commands::board::print_page;
 use crate::commands::feed::read_feed;
 use crate::commands::files::read_file;
+use crate::commands::opening::open_request;
 use crate::commands::refusal::Refusal;
 use crate::commands::request_lines::{lines_of, text_of};
-use crate::commands::requests::{RequestTexts, StopRequest, first_fault, read_request};
+use crate::commands::requests::{StopRequest, first_fault, read_request};
 use crate::commands::times::read_times;
+use crate::commands::values::RequestTexts;
 use crate::commands::zone_file::read_zone;
 use crate::seen::{DevicesSeen, OutSeen};
-use gtfs_board::{Board, Feed, Span, StopIndex, Times};
+use gtfs_board::{Board, Feed, StopIndex, Times};
 use gtfs_commands::BoardsTexts;
 use gtfs_days::Zone;
 use gtfs_field::OutOfMemory;
@@ -147,13 +149,12 @@ fn print_request<'w, O: Out>(
         PrintsText (IsOneText f zone.now q) (BeginsBoard f zone.now q) (BeginsWhole f zone.now q) (λ _. ⊥)
         (⟦<O as OutSeen>⟧.seen out.old) (⟦<O as OutSeen>⟧.seen out.new) result }
 {
-    let mut board = open(alloc, index, zone, request)?;
+    let mut board = open_judged(alloc, index, zone, request)?;
     print_opened(alloc, &mut board, request, out)
 }
 
-// The board of a request, whose line was judged:
-// its stop is known, and it does not end before it begins.
-fn open<'a>(
+// The board of a request, whose line was judged, so that memory alone can be refused.
+fn open_judged<'a>(
     alloc: Global,
     index: &StopIndex<'a>,
     zone: &'a Zone,
@@ -166,19 +167,7 @@ fn open<'a>(
         request.now.texts.stop.now (request_of request.now.values) board.rest) }
     ensures zone { IfOk result (λ board. board.zone ≡ zone.now) }
 {
-    let values = &request.values;
-    let span = Span {
-        from: values.from.instant(alloc, zone)?,
-        until: values.until.instant(alloc, zone)?,
-    };
-    match Board::open_indexed(
-        alloc,
-        index,
-        zone,
-        request.texts.stop,
-        span,
-        values.after.as_ref(),
-    ) {
+    match open_request(alloc, index, zone, request) {
         Ok(board) => Ok(board),
         Err(_) => Err(OutOfMemory),
     }

@@ -3,30 +3,16 @@ ghost use Rattle.std.specs.Option.{option_and_then};
 ghost use Rattle.gtfs_days.specs.Zone.{zone_origin};
 ghost use Rattle.gtfs_rows.specs.Views.{content_of_parts};
 ghost use Rattle.gtfs_cli.specs.LentRequests.{request_texts_of, stop_request_of};
-ghost use Rattle.gtfs_cli.specs.Boards.{request_of};
 ghost use Rattle.gtfs_cli.specs.Refusals.{IsSound};
-ghost use Rattle.gtfs_cli.specs.Requests.{fault_in, fields_of, judged, numbered_from, request_from, request_texts, requests_in, stop_request, text_if_any};
+ghost use Rattle.gtfs_cli.specs.Requests.{fault_in, fields_of, judged, numbered_from, request_texts, requests_in, stop_request, text_if_any};
 ghost use Rattle.gtfs_cli.specs.OptionValues.{instant_at};
 
-use crate::commands::moments::read_moment;
 use crate::commands::request_fault::RequestFault;
-use crate::commands::values::{Request, read_after, read_limit};
+use crate::commands::values::{Request, RequestTexts, read_request_values};
 use gtfs_board::{Feed, Times};
 use gtfs_days::Zone;
 use gtfs_field::OutOfMemory;
 use std::alloc::Global;
-
-// The texts of a request, as they stand in its line.
-#[derive(Clone, Copy)]
-pub(super) struct RequestTexts<'w> {
-    pub(super) stop: &'w str,
-    pub(super) from: &'w str,
-    pub(super) until: &'w str,
-    // None where it is empty or not there.
-    pub(super) limit: Option<&'w str>,
-    // The same.
-    pub(super) after: Option<&'w str>,
-}
 
 // A board that a line asks for.
 #[derive(Clone, Copy)]
@@ -103,41 +89,11 @@ pub(super) fn read_request<'w>(line: &'w str, times: Times) -> Option<StopReques
     ensures from { IfSome result (λ q. IsSound q.values.from) }
     ensures until { IfSome result (λ q. IsSound q.values.until) }
 {
-    let Some(texts) = read_texts(line) else {
-        return None;
-    };
-    let Some(values) = read_request_values(&texts, times) else {
+    let texts = read_texts(line)?;
+    let Ok(values) = read_request_values(&texts, times) else {
         return None;
     };
     Some(StopRequest { texts, values })
-}
-
-// The values of the texts of a request. None where one is bad.
-fn read_request_values<'w>(texts: &RequestTexts<'w>, times: Times) -> Option<Request<'w>>
-    ensures values { option_map request_of result ≡ request_from times (request_texts_of texts.now) }
-    ensures times { IfSome result (λ v. v.times ≡ times) }
-    ensures from { IfSome result (λ v. IsSound v.from) }
-    ensures until { IfSome result (λ v. IsSound v.until) }
-{
-    let Some(from) = read_moment(texts.from) else {
-        return None;
-    };
-    let Some(until) = read_moment(texts.until) else {
-        return None;
-    };
-    let Some(limit) = read_limit(texts.limit) else {
-        return None;
-    };
-    let Some(after) = read_after(texts.after) else {
-        return None;
-    };
-    Some(Request {
-        from,
-        until,
-        limit,
-        after,
-        times,
-    })
 }
 
 // The texts of a line of three to five fields, which stand between tabs.

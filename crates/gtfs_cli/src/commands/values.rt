@@ -1,9 +1,12 @@
-ghost use Rattle.std.specs.Prelude.{◌≡◌, None, Some, option_map, IfOk, IfErr};
+ghost use Rattle.std.specs.Prelude.{◌≡◌, Some, option_map, IfOk, IfErr};
 ghost use Rattle.gtfs_board.specs.Lent.{plain_key};
-ghost use Rattle.gtfs_cli.specs.Boards.{AreValues};
 ghost use Rattle.gtfs_commands.specs.Words.{texts_of};
+ghost use Rattle.gtfs_cli.specs.Boards.{request_of, AreValues};
 ghost use Rattle.gtfs_cli.specs.Judging.{IsFirstBad};
-ghost use Rattle.gtfs_cli.specs.OptionValues.{after_of, judged_board, limit_of};
+ghost use Rattle.gtfs_cli.specs.LentRequests.{request_texts_of};
+ghost use Rattle.gtfs_cli.specs.Options.{first_of_bad};
+ghost use Rattle.gtfs_cli.specs.OptionValues.{after_of, judged_board, judged_values, limit_of, moment_of};
+ghost use Rattle.gtfs_cli.specs.Refusals.{IsSound};
 
 use crate::commands::moments::{Moment, read_moment};
 use crate::commands::refusal::Refusal;
@@ -30,35 +33,69 @@ pub(super) struct Request<'w> {
     pub(super) times: Times,
 }
 
-// Reads the values in the order of the usage.
+// The texts of a request, as they stand in the words or in its line.
+#[derive(Clone, Copy)]
+pub(super) struct RequestTexts<'w> {
+    pub(super) stop: &'w str,
+    pub(super) from: &'w str,
+    pub(super) until: &'w str,
+    // None where it is empty or not there.
+    pub(super) limit: Option<&'w str>,
+    // The same.
+    pub(super) after: Option<&'w str>,
+}
+
+// Reads the values of the options of a board.
 // Errors: `BadValue` of the first that is bad.
 pub(super) fn read_values<'w>(words: &BoardTexts<'w>) -> Result<Request<'w>, Refusal<'w>>
     ensures read { IfOk result (AreValues (texts_of words.now)) }
     ensures refused { IfErr result (IsFirstBad (judged_board (texts_of words.now))) }
 {
-    let Some(from) = read_moment(words.from) else {
-        return Err(Refusal::BadValue("--from"));
+    let texts = RequestTexts {
+        stop: words.stop,
+        from: words.from,
+        until: words.until,
+        limit: words.limit,
+        after: words.after,
     };
-    let Some(until) = read_moment(words.until) else {
-        return Err(Refusal::BadValue("--until"));
-    };
-    let Some(limit) = read_limit(words.limit) else {
-        return Err(Refusal::BadValue("--limit"));
-    };
-    let Some(after) = read_after(words.after) else {
-        return Err(Refusal::BadValue("--after"));
+    match read_request_values(&texts, read_times(words.interpolate)) {
+        Ok(values) => Ok(values),
+        Err(option) => Err(Refusal::BadValue(option)),
+    }
+}
+
+// Reads the values of the texts of a request, in the order of the usage.
+// Errors: The option of the first that is bad.
+pub(super) fn read_request_values<'w>(
+    texts: &RequestTexts<'w>,
+    times: Times,
+) -> Result<Request<'w>, &'static str>
+    ensures read { let t = request_texts_of texts.now in IfOk result (λ v.
+        (moment_of t.from ≡ Some v.from) × (moment_of t.until ≡ Some v.until)
+        × (limit_of t.limit ≡ Some v.limit) × (after_of t.after ≡ Some (request_of v).after)) }
+    ensures times { IfOk result (λ v. v.times ≡ times) }
+    ensures from { IfOk result (λ v. IsSound v.from) }
+    ensures until { IfOk result (λ v. IsSound v.until) }
+    ensures refused { let t = request_texts_of texts.now in IfErr result (λ option.
+        first_of_bad (judged_values t.from t.until t.limit t.after) ≡ Some option.now) }
+{
+    let from = read_moment(texts.from).ok_or("--from")?;
+    let until = read_moment(texts.until).ok_or("--until")?;
+    let limit = read_limit(texts.limit).ok_or("--limit")?;
+    let Some(after) = read_after(texts.after) else {
+        return Err("--after");
     };
     Ok(Request {
         from,
         until,
         limit,
         after,
-        times: read_times(words.interpolate),
+        times,
     })
 }
 
 // Reads the value of `--limit`, a count. None where it is not.
-pub(super) fn read_limit(text: Option<&str>) -> Option<u64>
+fn read_limit(text: Option<&str>) -> Option<u64>
     ensures { result ≡ limit_of (option_map (λ t. t.now) text.entry) }
 {
     match text {
@@ -71,7 +108,7 @@ pub(super) fn read_limit(text: Option<&str>) -> Option<u64>
 }
 
 // Reads the value of `--after`, the text of a key. None where it is not.
-pub(super) fn read_after<'w>(text: Option<&'w str>) -> Option<Option<Key<'w>>>
+fn read_after<'w>(text: Option<&'w str>) -> Option<Option<Key<'w>>>
     ensures { option_map (λ key. option_map plain_key key) result
         ≡ after_of (option_map (λ t. t.now) text.entry) }
 {

@@ -23,7 +23,11 @@ departs_of p s t r = nat_lt s (length p.stops) && has_departure_row (content_of_
 abbrev pub at_stop : List (List DepartureRow) → ℕ → List DepartureRow
 at_stop lists s = slice_index_or lists s []
 
+-- a position of a trip, of whose stop time no more is said
+abbrev pub position_of : ℕ → ℕ → DepartureRow
+position_of t r = record { trip = t; row = r; left = 0; sequence = 0 }
+
 -- they are in their order, and all before a position of a trip
 pub record StandBefore (t r : ℕ) (xs : List DepartureRow) : Type 0 where
   pub in_order : Ascends departure_row_cmp xs
-  pub before : All (λ x. departure_row_cmp x (record { trip = t; row = r }) ≡ Less) xs
+  pub before : All (λ x. departure_row_cmp x (position_of t r) ≡ Less) xs

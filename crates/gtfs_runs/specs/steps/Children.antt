@@ -1,12 +1,13 @@
 -- The stops and platforms of a feed that have a parent, by the numbers of both, and what an index keeps.
 -- GTFS Schedule Reference, stops.txt: location_type and parent_station.
-use Rattle.std.specs.Prelude.{◌≡◌, ℕ, ◌==◌, ◌&&◌, not, Bool, nat_lt, List, cond, option_map, slice_get}
+use Rattle.std.specs.Prelude.{◌≡◌, ℕ, ◌==◌, ◌&&◌, not, All, Bool, nat_lt, List, cond, option_map, slice_get}
 use Rattle.std.specs.List.Sorted.{IsSorted}
 use Rattle.std.specs.Ordering.{nat_cmp, on, then_cmp}
 use Rattle.std.specs.declared.cmp.Ordering.{Ordering}
 use Rattle.gtfs_columns.specs.Values.{if_there}
 use Rattle.gtfs_rows.specs.Choices.{location_code}
 use Rattle.gtfs_rows.specs.declared.parts.Parts.{Parts}
+use Rattle.gtfs_times.specs.TimedRows.{timed_parts}
 use Rattle.gtfs_times.specs.declared.times.Times.{Times}
 use Rattle.gtfs_runs.specs.Counts.{tally}
 use Rattle.gtfs_runs.specs.StopIndex.{AreDepartureRows}
@@ -14,6 +15,7 @@ use Rattle.gtfs_runs.specs.declared.stop_index.DepartureRow.{DepartureRow}
 use Rattle.gtfs_runs.specs.declared.stop_index.children.Child.{Child}
 use Rattle.gtfs_runs.specs.declared.stop_index.indexed_trips.IndexedTrip.{IndexedTrip}
 use Rattle.gtfs_runs.specs.steps.Groups.{AreIndexedTrips}
+use Rattle.gtfs_runs.specs.steps.Noted.{IsNoted}
 
 -- the second is a stop or platform, other than the first, which is its parent
 abbrev pub is_child : Parts → ℕ → ℕ → Bool
@@ -40,5 +42,6 @@ below_parent xs s = tally (λ x. nat_lt x.parent s) xs
 -- what an index of a feed keeps
 pub record IsIndex (times : Times) (p : Parts) (index : List (List DepartureRow)) (xs : List Child) (ts : List IndexedTrip) : Type 0 where
   pub rows : AreDepartureRows times p index
+  pub noted : All (All (IsNoted (timed_parts times p))) index
   pub children : AreChildren p xs
   pub trips : AreIndexedTrips p ts

@@ -31,7 +31,7 @@ abbrev pub trip_group : Parts → ℕ → Group
 trip_group p t = (unwrap_or (option_map (λ u. u.service_id.0) (slice_get p.trips t)) 0, stops_in (slice_index_or (stop_rows_by_trip p) t []))
 
 abbrev pub group_of : GroupedTrip → Group
-group_of x = (x.service.0, stops_in x.rows.now)
+group_of x = (x.service.0, x.stops.items)
 
 -- how many of these have a lower group
 abbrev pub below : List GroupedTrip → Group → ℕ
@@ -54,6 +54,10 @@ HaveGroups n xs trips = (i j : ℕ) (d : GroupedTrip) (e : IndexedTrip) → i < 
     → nat_cmp (slice_index_or trips (slice_index_or xs i d).trip.0 e).group (slice_index_or trips (slice_index_or xs j d).trip.0 e).group
     ≡ group_cmp (group_of (slice_index_or xs i d)) (group_of (slice_index_or xs j d))
 
+-- each has the service of its trip
+abbrev pub AreServing : Parts → List IndexedTrip → Type 0
+AreServing p trips = map (λ x. x.service) trips ≡ map (λ u. u.service_id.0) p.trips
+
 -- each trip starts when it leaves its first stop
 abbrev pub AreStarted : Parts → List IndexedTrip → Type 0
 AreStarted p trips = map (λ x. x.start) trips ≡ map first_left (stop_rows_by_trip p)
@@ -66,5 +70,6 @@ AreMarked p trips = map (λ x. x.has_frequencies) trips ≡ map (λ fs. not (len
 pub record AreIndexedTrips (p : Parts) (trips : List IndexedTrip) : Type 0 where
   pub groups : (t u : ℕ) (e : IndexedTrip) → t < length p.trips → u < length p.trips
       → nat_cmp (slice_index_or trips t e).group (slice_index_or trips u e).group ≡ group_cmp (trip_group p t) (trip_group p u)
+  pub serving : AreServing p trips
   pub starts : AreStarted p trips
   pub marks : AreMarked p trips

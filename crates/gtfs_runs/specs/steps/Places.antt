@@ -7,13 +7,11 @@ use Rattle.gtfs_rows.specs.Places.{is_in_place}
 use Rattle.gtfs_rows.specs.Runs.{is_departure_row}
 use Rattle.gtfs_rows.specs.Trips.{stop_rows_by_trip}
 use Rattle.gtfs_rows.specs.Views.{content_of_parts, stop_ids, text_of_number}
-use Rattle.gtfs_rows.specs.declared.numbers.ServiceNo.{ServiceNo}
 use Rattle.gtfs_rows.specs.declared.parts.Parts.{Parts}
 use Rattle.gtfs_stop_times.specs.declared.stop_row.StopRow.{StopRow}
 use Rattle.gtfs_runs.specs.StopIndex.{departure_row_cmp, is_this_row}
 use Rattle.gtfs_runs.specs.declared.stop_index.DepartureRow.{DepartureRow}
 use Rattle.gtfs_runs.specs.declared.stop_lanes.passing.Passing.{Passing}
-use Rattle.gtfs_runs.specs.steps.Groups.{trip_group}
 use Rattle.gtfs_runs.specs.steps.Passings.{first_left, passing_at}
 
 -- the stop time of a trip at a position is a departure row at the place of a stop, all by their numbers
@@ -47,7 +45,3 @@ passing_in p d x = passing_of (slice_index_or (stop_rows_by_trip p) x.trip []) d
 pub record ArePassingsAt (p : Parts) (rows : List DepartureRow) (xs : List Passing) : Type 0 where
   pub passings : (d : StopRow) → xs ≡ map (passing_in p d) rows
   pub after : All (λ x. x.after ≤ 3_599_999) xs
-
--- the services of the trips of these rows, one for each
-abbrev pub AreServicesAt : Parts → List DepartureRow → List ServiceNo → Type 0
-AreServicesAt p rows xs = map (λ n. n.0) xs ≡ map (λ x. (trip_group p x.trip).0) rows

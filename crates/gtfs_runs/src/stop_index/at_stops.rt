@@ -1,15 +1,18 @@
-ghost use Rattle.std.specs.Prelude.{◌≡◌, ◌<◌, ◌+◌, ◌&&◌, ◌==◌, ℕ, All, AllPairs, IfOk, List, OnOk, cond, length, map, slice_get};
+ghost use Rattle.std.specs.Prelude.{◌≡◌, ◌<◌, ◌+◌, ◌&&◌, ◌==◌, ℕ, All, AllPairs, IfOk, List, OnOk, Some, cond, length, map, slice_get};
 ghost use Rattle.gtfs_columns.specs.Values.{if_there};
 ghost use Rattle.gtfs_rows.specs.Order.{Ascends};
+ghost use Rattle.gtfs_rows.specs.Trips.{stop_rows_by_trip};
 ghost use Rattle.gtfs_rows.specs.declared.frequency.Frequency.{Frequency};
 ghost use Rattle.gtfs_rows.specs.declared.parts.Parts.{Parts};
 ghost use Rattle.gtfs_rows.specs.declared.trip.Trip.{Trip};
 ghost use Rattle.gtfs_runs.specs.Counts.{tally};
 ghost use Rattle.gtfs_runs.specs.StopIndex.{departure_row_cmp, is_this_row};
 ghost use Rattle.gtfs_runs.specs.steps.AtStops.{StandBefore, at_stop, departs_of, leaves_stop};
+ghost use Rattle.gtfs_runs.specs.steps.Noted.{IsNoted, noted_row};
 ghost use Rattle.gtfs_times.specs.TimedRows.{timed_parts};
 
 use crate::departure_row::is_departure_row;
+use crate::grouped_trip::GroupedTrip;
 use crate::stop_index::DepartureRow;
 use crate::stop_index::rooms::rooms;
 use gtfs_feed::Feed;
@@ -18,11 +21,13 @@ use gtfs_rows::{StopRow, TripNo};
 use gtfs_times::{Times, filled, is_to_fill};
 use std::alloc::Global;
 
-// The departure rows at each stop of a feed, by trip and position.
+// The departure rows at each stop of a feed, by trip and position. Its trips tell how much room
+// they need.
 pub(crate) fn at_stops(
     alloc: Global,
     feed: &Feed,
     times: Times,
+    trips: &[GroupedTrip],
 ) -> Result<Vec<Vec<DepartureRow>>, OutOfMemory>
     ensures length { IfOk result (λ found. length found.items ≡ length feed.now.stops) }
     ensures told { IfOk result (λ found. (s t r : ℕ)
@@ -30,9 +35,11 @@ pub(crate) fn at_stops(
         ≡ cond (departs_of (timed_parts times feed.now) s t r) 1 0) }
     ensures order { IfOk result (λ found.
         All (Ascends departure_row_cmp) (map (λ x. x.items) found.items)) }
+    ensures noted { IfOk result (λ found.
+        All (All (IsNoted (timed_parts times feed.now))) (map (λ x. x.items) found.items)) }
 {
     feed.soundness();
-    let mut found = rooms(alloc, feed)?;
+    let mut found = rooms(alloc, feed, trips)?;
     for number in 0..feed.trip_count() {
         add_trip(alloc, feed, TripNo(number), times, &mut found)?;
     }
@@ -56,6 +63,9 @@ fn add_trip(
         + cond ((t == trip.0) && departs_of (timed_parts times feed.now) s t r) 1 0) }
     ensures order { OnOk result (All (StandBefore trip.0 0) (map (λ x. x.items) found.old.items)
         → All (StandBefore (trip.0 + 1) 0) (map (λ x. x.items) found.new.items)) }
+    ensures noted { OnOk result (
+        All (All (IsNoted (timed_parts times feed.now))) (map (λ x. x.items) found.old.items)
+        → All (All (IsNoted (timed_parts times feed.now))) (map (λ x. x.items) found.new.items)) }
 {
     feed.soundness();
     let rows = feed.trip_rows(trip);
@@ -82,6 +92,10 @@ fn add_rows(
         && if_there (slice_get rows.now r) (leaves_stop p u rows.now fs s)) 1 0) }
     ensures order { OnOk result (All (StandBefore trip.0 0) (map (λ x. x.items) found.old.items)
         → All (StandBefore trip.0 (length rows.now)) (map (λ x. x.items) found.new.items)) }
+    ensures noted { OnOk result ((p : Parts)
+        → slice_get (stop_rows_by_trip p) trip.0 ≡ Some rows.now
+        → All (All (IsNoted p)) (map (λ x. x.items) found.old.items)
+        → All (All (IsNoted p)) (map (λ x. x.items) found.new.items)) }
 {
     for position in 0..rows.len() {
         add_row(trip, rows, position, found)?;
@@ -108,21 +122,25 @@ fn add_row(
     ensures order { OnOk result (
         All (StandBefore trip.0 position) (map (λ x. x.items) found.old.items)
         → All (StandBefore trip.0 (position + 1)) (map (λ x. x.items) found.new.items)) }
+    ensures noted { OnOk result ((p : Parts)
+        → slice_get (stop_rows_by_trip p) trip.0 ≡ Some rows.now
+        → All (All (IsNoted p)) (map (λ x. x.items) found.old.items)
+        → All (All (IsNoted p)) (map (λ x. x.items) found.new.items)) }
 {
     if !is_departure_row(rows, position) {
         return Ok(());
     }
-    let row = row_at(trip, position)?;
-    let stop = rows[position].stop_id;
-    found[stop.0].push(row)?;
+    let stop_time = &rows[position];
+    let row = row_at(trip, position, stop_time)?;
+    found[stop_time.stop_id.0].push(row)?;
     Ok(())
 }
 
-// The stop time of a trip at a position.
-fn row_at(trip: TripNo, position: usize) -> Result<DepartureRow, OutOfMemory>
-    ensures { IfOk result (λ row. row ≡ record { trip = trip.0; row = position }) }
+// This stop time of a trip at a position.
+fn row_at(trip: TripNo, position: usize, stop_time: &StopRow) -> Result<DepartureRow, OutOfMemory>
+    ensures { IfOk result (λ row. row ≡ noted_row trip.0 position stop_time.now) }
 {
-    Ok(DepartureRow::new(small_number(trip.0)?, small_number(position)?))
+    Ok(DepartureRow::new(small_number(trip.0)?, small_number(position)?, stop_time))
 }
 
 // A number as the index keeps it. No number is left for more than 4,294,967,296 stops, services,

@@ -1,6 +1,9 @@
-ghost use Rattle.std.specs.Prelude.{◌≡◌, ◌<◌, IfOk, Some, length, slice_get};
+ghost use Rattle.std.specs.Prelude.{◌≡◌, ◌<◌, All, IfOk, Some, length, slice_get};
 ghost use Rattle.gtfs_runs.specs.StopIndex.{AreDepartureRows};
+ghost use Rattle.gtfs_runs.specs.steps.Noted.{IsNoted};
+ghost use Rattle.gtfs_times.specs.TimedRows.{timed_parts};
 
+use crate::grouped_trip::GroupedTrip;
 use crate::stop_index::DepartureRow;
 use crate::stop_index::at_stops::at_stops;
 use gtfs_feed::Feed;
@@ -27,12 +30,18 @@ impl Model for RowsByStop {
 }
 
 impl RowsByStop {
-    // Those of a feed under a choice of times.
-    pub(crate) fn build(alloc: Global, feed: &Feed, times: Times) -> Result<RowsByStop, OutOfMemory>
-        ensures { IfOk result (λ rows. AreDepartureRows times feed.now rows) }
+    // Those of a feed under a choice of times. Its trips tell how much room they need.
+    pub(crate) fn build(
+        alloc: Global,
+        feed: &Feed,
+        times: Times,
+        trips: &[GroupedTrip],
+    ) -> Result<RowsByStop, OutOfMemory>
+        ensures rows { IfOk result (λ rows. AreDepartureRows times feed.now rows) }
+        ensures noted { IfOk result (λ rows. All (All (IsNoted (timed_parts times feed.now))) rows) }
     {
         feed.soundness();
-        let at_stops = at_stops(alloc, feed, times)?;
+        let at_stops = at_stops(alloc, feed, times, trips)?;
         Ok(RowsByStop { at_stops })
     }
 

@@ -16,10 +16,9 @@ ghost use Rattle.gtfs_runs.specs.steps.Passings.{ArePassings, first_left};
 ghost use Rattle.gtfs_times.specs.TimedRows.{timed_parts};
 ghost use Rattle.gtfs_times.specs.declared.times.Times.{Times as Choice};
 
-use crate::departure_row::trip_start;
 use crate::place::Place;
 use crate::step_lane::StepLane;
-use crate::stop_index::{IndexedTrip, has_frequencies};
+use crate::stop_index::IndexedTrip;
 use crate::stop_lanes::listed::Listed;
 use crate::stop_lanes::passing::{Passing, passings};
 use gtfs_feed::Feed;
@@ -96,20 +95,14 @@ fn add_trip(
         → AreServed feed.now listed.new.items) }
 {
     feed.soundness();
-    let service = feed.trip_by_number(trip).service_id;
     let passings = passings(alloc, feed, place, trip, times)?;
-    let indexed = IndexedTrip {
-        group: 0,
-        start: trip_start(feed.trip_rows(trip)),
-        has_frequencies: has_frequencies(feed, trip),
-    };
-    add_passings(feed, service, trip, indexed, &passings, listed, periods)
+    let indexed = IndexedTrip::of(feed, trip)?;
+    add_passings(feed, trip, indexed, &passings, listed, periods)
 }
 
-// Adds what leaves a place of one trip, which has this service, by its stop times there.
+// Adds what leaves a place of one trip, by its stop times there.
 pub(crate) fn add_passings(
     feed: &Feed,
-    service: ServiceNo,
     trip: TripNo,
     indexed: IndexedTrip,
     passings: &[Passing],
@@ -117,7 +110,7 @@ pub(crate) fn add_passings(
     periods: &mut Vec<StepLane>,
 ) -> Result<(), OutOfMemory>
     requires trip { trip.0 < length feed.now.trips }
-    requires service { service.0 ≡ (trip_group feed.now trip.0).0 }
+    requires service { indexed.service ≡ (trip_group feed.now trip.0).0 }
     requires start { indexed.start
         ≡ first_left (slice_index_or (stop_rows_by_trip feed.now) trip.0 []) }
     requires marked { (fs : List FrequencyValue)
@@ -138,16 +131,16 @@ pub(crate) fn add_passings(
 {
     feed.soundness();
     if !indexed.has_frequencies {
-        return add_listed(service, trip, indexed, passings, listed);
+        return add_listed(trip, indexed, passings, listed);
     }
+    let service = ServiceNo(indexed.service as usize);
     let frequencies = feed.trip_frequencies(trip);
     add_periods(service, trip, frequencies, passings, periods)?;
     Ok(())
 }
 
-// Adds the events of a trip without frequencies, which has this service.
+// Adds the events of a trip without frequencies.
 fn add_listed(
-    service: ServiceNo,
     trip: TripNo,
     indexed: IndexedTrip,
     passings: &[Passing],
@@ -161,11 +154,11 @@ fn add_listed(
     ensures groups { OnOk result ((groups : ℕ → ℕ) → groups trip.0 ≡ indexed.group
         → All (λ x. groups x.trip ≡ x.group) listed.old.items
         → All (λ x. groups x.trip ≡ x.group) listed.new.items) }
-    ensures services { OnOk result ((p : Parts) → (trip_group p trip.0).0 ≡ service.0
+    ensures services { OnOk result ((p : Parts) → (trip_group p trip.0).0 ≡ indexed.service
         → AreServed p listed.old.items → AreServed p listed.new.items) }
 {
     for passing in passings {
-        listed.push(Listed::of(service, trip, indexed, passing)?)?;
+        listed.push(Listed::of(trip, indexed, passing)?)?;
     }
     Ok(())
 }

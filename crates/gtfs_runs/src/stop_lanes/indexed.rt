@@ -5,18 +5,18 @@ ghost use Rattle.gtfs_runs.specs.steps.Courses.{AreServed, stopping_of};
 ghost use Rattle.gtfs_runs.specs.steps.Finds.{AreFound};
 ghost use Rattle.gtfs_runs.specs.steps.Groups.{AreIndexedTrips};
 ghost use Rattle.gtfs_runs.specs.steps.Numbers.{AreNumbered};
-ghost use Rattle.gtfs_runs.specs.steps.Places.{ArePassingsAt, ArePlaceRows, AreServicesAt, first_trip};
+ghost use Rattle.gtfs_runs.specs.steps.Places.{ArePassingsAt, ArePlaceRows, first_trip};
 ghost use Rattle.gtfs_times.specs.TimedRows.{timed_parts};
 
 use crate::step_lane::StepLane;
 use crate::stop_index::{DepartureRow, IndexedTrip, StopIndex, place_rows, trip_at};
-use crate::stop_lanes::at_rows::{passings_at, rows_of, services_at};
+use crate::stop_lanes::at_rows::{passings_at, rows_of};
 use crate::stop_lanes::found::{Found, add_passings};
 use crate::stop_lanes::listed::Listed;
 use crate::stop_lanes::passing::Passing;
 use gtfs_feed::Feed;
 use gtfs_field::OutOfMemory;
-use gtfs_rows::{ServiceNo, StopNo};
+use gtfs_rows::StopNo;
 use gtfs_times::Times;
 use std::alloc::Global;
 
@@ -39,8 +39,8 @@ pub(crate) fn found_in_index(
     feed.soundness();
     let times = index.times();
     let trips = index.trips();
-    let passings = passings_at(alloc, feed, times, trips, &rows)?;
-    let services = services_at(alloc, feed, &rows)?;
+    index.notes();
+    let passings = passings_at(alloc, trips, &rows)?;
     let mut listed = Vec::with_capacity(alloc, rows.len())?;
     let mut periods = Vec::new(alloc);
     add_rows(
@@ -50,15 +50,14 @@ pub(crate) fn found_in_index(
         times,
         &rows,
         &passings,
-        &services,
         &mut listed,
         &mut periods,
     )?;
     Ok(Found { listed, periods })
 }
 
-// Adds what leaves the place of a stop at these departure rows, with their passings and the
-// services of their trips, trip after trip.
+// Adds what leaves the place of a stop at these departure rows, with their passings, trip after
+// trip.
 fn add_rows(
     feed: &Feed,
     trips: &[IndexedTrip],
@@ -66,14 +65,12 @@ fn add_rows(
     times: Times,
     rows: &[DepartureRow],
     passings: &[Passing],
-    services: &[ServiceNo],
     listed: &mut Vec<Listed>,
     periods: &mut Vec<StepLane>,
 ) -> Result<(), OutOfMemory>
     requires trips { AreIndexedTrips feed.now trips.now }
     requires rows { ArePlaceRows (timed_parts times feed.now) stop.0 0 rows.now }
     requires passings { ArePassingsAt (timed_parts times feed.now) rows.now passings.now }
-    requires services { AreServicesAt feed.now rows.now services.now }
     ensures found { OnOk result (
         AreFound (timed_parts times feed.now) stop.0 0
         (map (stopping_of feed.now) listed.old.items) (map period_value periods.old.items)
@@ -95,7 +92,6 @@ fn add_rows(
             times,
             &rows[at..],
             &passings[at..],
-            &services[at..],
             listed,
             periods,
         )?;
@@ -103,8 +99,8 @@ fn add_rows(
     Ok(())
 }
 
-// Adds what leaves the place of the trip of the first of these rows, with their passings and the
-// services of their trips. Answers how many of them are that trip's.
+// Adds what leaves the place of the trip of the first of these rows, with their passings. Answers
+// how many of them are that trip's.
 fn add_trip(
     feed: &Feed,
     trips: &[IndexedTrip],
@@ -112,7 +108,6 @@ fn add_trip(
     times: Times,
     rows: &[DepartureRow],
     passings: &[Passing],
-    services: &[ServiceNo],
     listed: &mut Vec<Listed>,
     periods: &mut Vec<StepLane>,
 ) -> Result<usize, OutOfMemory>
@@ -121,7 +116,6 @@ fn add_trip(
     requires rows { ArePlaceRows (timed_parts times feed.now) stop.0
         (first_trip (length feed.now.trips) rows.now) rows.now }
     requires passings { ArePassingsAt (timed_parts times feed.now) rows.now passings.now }
-    requires services { AreServicesAt feed.now rows.now services.now }
     ensures some { IfOk result (λ n. 0 < n) }
     ensures upto { IfOk result (λ n. n ≤ length rows.now) }
     ensures found { IfOk result (λ n.
@@ -142,14 +136,7 @@ fn add_trip(
     let trip = rows[0].trip();
     let count = rows_of(rows, trip);
     let indexed = trip_at(trips, trip);
-    add_passings(
-        feed,
-        services[0],
-        trip,
-        indexed,
-        &passings[..count],
-        listed,
-        periods,
-    )?;
+    let own = &passings[..count];
+    add_passings(feed, trip, indexed, own, listed, periods)?;
     Ok(count)
 }

@@ -31,9 +31,8 @@ pub(crate) struct Listed {
 }
 
 impl Listed {
-    // That of a trip of this service at one of its stop times.
+    // That of a trip at one of its stop times.
     pub(crate) fn of(
-        service: ServiceNo,
         trip: TripNo,
         indexed: IndexedTrip,
         passing: &Passing,
@@ -43,7 +42,7 @@ impl Listed {
         ensures event { IfOk result (λ x. event_of x
             ≡ passing_event trip.0 indexed.start passing.now) }
         ensures group { IfOk result (λ x. x.group ≡ indexed.group) }
-        ensures service { IfOk result (λ x. x.service ≡ service.0) }
+        ensures service { IfOk result (λ x. x.service ≡ indexed.service) }
     {
         Ok(Listed {
             group: indexed.group,
@@ -52,7 +51,7 @@ impl Listed {
             trip: small_number(trip.0)?,
             run: indexed.start,
             seq: passing.seq,
-            service: small_number(service.0)?,
+            service: indexed.service,
         })
     }
 

@@ -29,15 +29,11 @@ pub(crate) fn numbered(
         → AreServed p found.items) }
 {
     let trips = by_group(trips_of(alloc, feed, &listed)?);
-    with_groups(feed, &trips, listed)
+    with_groups(alloc, feed, &trips, listed)
 }
 
 // The trips of these events, where the events of a trip stand together.
-fn trips_of<'a>(
-    alloc: Global,
-    feed: &'a Feed,
-    listed: &[Listed],
-) -> Result<Vec<GroupedTrip<'a>>, OutOfMemory>
+fn trips_of(alloc: Global, feed: &Feed, listed: &[Listed]) -> Result<Vec<GroupedTrip>, OutOfMemory>
     requires { All (λ x. x.trip < length feed.now.trips) listed.now }
     ensures { IfOk result (λ trips. All (λ x. 1 ≤ sharing trips.items (trip_group feed.now x.trip))
         listed.now) }
@@ -45,7 +41,7 @@ fn trips_of<'a>(
     let mut trips = Vec::new(alloc);
     for n in 0..listed.len() {
         if !goes_on(listed, n) {
-            trips.push(GroupedTrip::of(feed, listed[n].trip()))?;
+            trips.push(GroupedTrip::of(alloc, feed, listed[n].trip())?)?;
         }
     }
     Ok(trips)
@@ -63,8 +59,9 @@ fn goes_on(listed: &[Listed], n: usize) -> bool
 
 // The events, each with the number of the group of its trip.
 fn with_groups(
+    alloc: Global,
     feed: &Feed,
-    trips: &[GroupedTrip<'_>],
+    trips: &[GroupedTrip],
     mut listed: Vec<Listed>,
 ) -> Result<Vec<Listed>, OutOfMemory>
     requires in_order { IsSorted (λ x y. group_cmp (group_of x) (group_of y)) trips.now }
@@ -77,7 +74,7 @@ fn with_groups(
         → AreServed p found.items) }
 {
     for n in 0..listed.len() {
-        let group = group_at(feed, trips, &listed, n)?;
+        let group = group_at(alloc, feed, trips, &listed, n)?;
         listed[n].group = group;
     }
     Ok(listed)
@@ -85,8 +82,9 @@ fn with_groups(
 
 // The number of the group of the event at this index, where the events before it have theirs.
 fn group_at(
+    alloc: Global,
     feed: &Feed,
-    trips: &[GroupedTrip<'_>],
+    trips: &[GroupedTrip],
     listed: &[Listed],
     n: usize,
 ) -> Result<u32, OutOfMemory>
@@ -101,6 +99,6 @@ fn group_at(
     if goes_on(listed, n) {
         return Ok(listed[n - 1].group);
     }
-    let trip = GroupedTrip::of(feed, listed[n].trip());
+    let trip = GroupedTrip::of(alloc, feed, listed[n].trip())?;
     small_number(trips.partition_point(|other| group_order(other, &trip).is_lt()))
 }

@@ -69,6 +69,14 @@ const NOT_FOUND: ErrorKind = ErrorKind::NotFound;
 
 const SHORT: ErrorKind = ErrorKind::OutOfMemory;
 
+// A file as long as the limit, which is told to be longer.
+const LONGER_TOLD: Scene = Scene {
+    limit: 2,
+    file: Some(b"st"),
+    told: Some(100),
+    ..FILE
+};
+
 // What is answered, and the digits of the calls that are made.
 type Made = (Answer, u64);
 
@@ -140,6 +148,26 @@ const REFUSALS: &[Refusals] = &[
             (WHOLE, 2_456_666_666),
             (WHOLE, 2_456_666_666),
             (WHOLE, 245_666_666),
+        ],
+    ),
+    // A file that is told to be over the limit is gone through, and then read from its beginning.
+    (
+        LONGER_TOLD,
+        READS,
+        &[DENIED, FULL, LATE, NOT_FOUND, SHORT],
+        &[
+            (UNREADABLE, 23),
+            (UNREADABLE, 24),
+            (WHOLE, 245_666),
+            (UNREADABLE, 2_456),
+            (UNREADABLE, 24_566),
+            (UNREADABLE, 245_666),
+            (UNREADABLE, 24_566_623),
+            (UNREADABLE, 24_566_624),
+            (UNREADABLE, 245_666_246),
+            (UNREADABLE, 2_456_662_466),
+            (UNREADABLE, 24_566_624_666),
+            (WHOLE, 24_566_624_666),
         ],
     ),
     (
@@ -318,7 +346,7 @@ const SCENES: &[(&str, Scene, &[Asked], Made)] = &[
             ..FILE
         },
         READS,
-        (WHOLE, 245_666_666),
+        (WHOLE, 24_566_666_624_666_666),
     ),
     (
         "length 200,000,000",
@@ -334,6 +362,7 @@ const SCENES: &[(&str, Scene, &[Asked], Made)] = &[
         "an empty file",
         Scene {
             file: Some(b""),
+            told: Some(0),
             limit: 0,
             ..FILE
         },
@@ -355,6 +384,17 @@ const SCENES: &[(&str, Scene, &[Asked], Made)] = &[
             ..FILE
         },
         READS,
+        (TOO_LARGE, 24_566_666),
+    ),
+    // So it is where the length is told, and a reader that has no memory is asked for none.
+    (
+        "a byte more, as told",
+        Scene {
+            told: Some(5),
+            limit: 4,
+            ..FILE
+        },
+        &[Asked::Read, Asked::Lend, Asked::LendUntil(1)],
         (TOO_LARGE, 24_566_666),
     ),
     // The reader refuses to make room, the first byte, or the last one.

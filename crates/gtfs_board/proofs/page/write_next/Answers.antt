@@ -75,7 +75,7 @@ returns-in-Err-write_text g c =
     record {
       sent = tt;
       fault = (refl, line-cut _ _ _ _ _ _ _ _ _ _ _ next.first c.requires c.clear.ensures.bytes line c.as_bytes.ensures.value cut.prefix cut.within);
-      counted = cut.counted;
+      counted = cut.once;
       grows = c.write_text.ensures.grows;
       no_failure = tt;
       zone = c.next.ensures.zone;

@@ -19,8 +19,8 @@ returns-in-Err-Out g c = λ f stop r limit lists.
     let old = g.O.Out.told c.args.out.now in
     let new = g.O.Out.told c.write_page.new.out in
     let ends = subst (λ (e : PageFault). EndsPage board.zone c.args.limit board.rest left old new e) c.in-Err-Out.field-0-is c.in-Err-Out.ensures.fault in
-    let rises = subst (λ (e : PageFault). IsCounted (g.O.Out.failure_count c.args.out.now) (g.O.Out.failure_count c.write_page.new.out) e) c.in-Err-Out.field-0-is c.in-Err-Out.ensures.counted in
-    prints-cut _ _ _ _ _ _ (page-cut f board.zone stop r c.args.limit limit board.rest left _ lists old new ends) rises c.write_page.ensures.grows
+    let once = subst (λ (e : PageFault). IsCounted (g.O.Out.failure_count c.args.out.now) (g.O.Out.failure_count c.write_page.new.out) e) c.in-Err-Out.field-0-is c.in-Err-Out.ensures.counted in
+    prints-cut _ _ _ _ _ _ (page-cut f board.zone stop r c.args.limit limit board.rest left _ lists old new ends) once c.write_page.ensures.grows
 
 pub returns-in-Err-OutOfMemory : goal.returns-in-Err-OutOfMemory
 returns-in-Err-OutOfMemory g c = λ f stop r limit lists.

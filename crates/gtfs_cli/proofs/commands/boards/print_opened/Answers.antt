@@ -15,7 +15,7 @@ returns-in_err-write_text g c = λ f lists.
     let q = stop_request_of c.args.request.now in
     let text = c.as_bytes.ensures.value ∙ c.in_ok-heading.ensures in
     prints-up (IsOneText f z q) (BeginsBoard f z q) (BeginsWhole f z q) (λ _. ⊥) _ _ c.from_residual-in_err-write_text.result OutputFailed c.from_residual-in_err-write_text.ensures.1
-    (prints-cut _ _ _ _ _ _ (heading-cut f z q _ _ c.in_err-write_text.field-0.0.written _ text c.in_err-write_text.ensures.prefix) c.in_err-write_text.ensures.counted
+    (prints-cut _ _ _ _ _ _ (heading-cut f z q _ _ c.in_err-write_text.field-0.0.written _ text c.in_err-write_text.ensures.prefix) c.in_err-write_text.ensures.once
     c.write_text.ensures.grows)
 
 pub returns : goal.returns

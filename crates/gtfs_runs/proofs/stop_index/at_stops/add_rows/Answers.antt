@@ -19,6 +19,7 @@ loop-position-init c = record {
   told = λ s t r p u fs.
       no_rows (t == c.args.trip.0) (if_there (slice_get c.args.rows.now r) (leaves_stop p u c.args.rows.now fs s)) r (tally (is_this_row t r) (at_stop (map (λ x. x.items) c.args.found.now.items) s));
   order = λ was. was;
+  noted = λ p at were. were;
 }
 
 pub loop-position-preserved : goal.loop-position-preserved
@@ -28,6 +29,7 @@ loop-position-preserved c = record {
       more_rows (t == c.args.trip.0) (if_there (slice_get c.args.rows.now r) (leaves_stop p u c.args.rows.now fs s)) r c.loop-position.position _ _ _
       (c.loop-position.invariant.told s t r p u fs) (c.in_ok-add_row.ensures.told s t r p u fs);
   order = λ was. c.in_ok-add_row.ensures.order (c.loop-position.invariant.order was);
+  noted = λ p at were. c.in_ok-add_row.ensures.noted p at (c.loop-position.invariant.noted p at were);
 }
 
 pub returns : goal.returns
@@ -46,4 +48,5 @@ returns c =
       order = λ was.
           let all : n ≡ length rows = omega (arith, c.loop-position-test.false, c.loop-position.auto.position-end) in
           subst (λ m. All (StandBefore c.args.trip.0 m) (map (λ x. x.items) c.loop-position.found.items)) all (c.loop-position.invariant.order was);
+      noted = c.loop-position.invariant.noted;
     }

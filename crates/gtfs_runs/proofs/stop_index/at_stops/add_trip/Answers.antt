@@ -1,7 +1,8 @@
 use Rattle.std.proofs.Common.{◌∙◌, length, refl, sym}
 use Rattle.std.proofs.lemmas.Result.{on_ok_weaker}
+use Rattle.gtfs_times.specs.TimedRows.{timed_parts}
 use Rattle.gtfs_runs.proofs.AtStopFacts.{trip_added, trip_later}
-use Rattle.gtfs_runs.proofs.TimedTrips.{filled_under, times_of}
+use Rattle.gtfs_runs.proofs.TimedTrips.{filled_under, rows_timed, times_of}
 use Rattle.gtfs_runs.proofs.stop_index.at_stops.add_trip.Goals as goal
 
 pub add_rows-requires-clause-ascend : goal.add_rows-requires-clause-ascend
@@ -26,6 +27,7 @@ add_rows-requires-2-clause-stops c =
 
 pub returns-then-is_to_fill : goal.returns-then-is_to_fill
 returns-then-is_to_fill c =
+    let q = timed_parts c.args.times c.args.feed.now in
     let rows = c.trip_rows-rows.result.now in
     let is = c.deref.ensures.value ∙ c.in_ok-filled.ensures ∙ filled_under c.args.times rows (sym c.is_to_fill.ensures.value ∙ c.if-is_to_fill.true) in
     record {
@@ -34,10 +36,12 @@ returns-then-is_to_fill c =
           (λ added. trip_added c.args.times c.args.feed.now c.soundness.ensures c.args.trip.0 rows _ _ _ c.trip_rows-rows.ensures is added)
           c.add_rows.ensures.told;
       order = on_ok_weaker c.add_rows.result (λ later was. trip_later c.args.trip.0 _ _ (later was)) c.add_rows.ensures.order;
+      noted = on_ok_weaker c.add_rows.result (λ more. more q (rows_timed c.args.times c.args.feed.now c.soundness.ensures c.args.trip.0 rows _ c.trip_rows-rows.ensures is)) c.add_rows.ensures.noted;
     }
 
 pub returns : goal.returns
 returns c =
+    let q = timed_parts c.args.times c.args.feed.now in
     let rows = c.trip_rows-rows.result.now in
     let is = sym (c.is_to_fill.ensures.kept c.if-is_to_fill.false) in
     record {
@@ -46,4 +50,5 @@ returns c =
           (λ added. trip_added c.args.times c.args.feed.now c.soundness.ensures c.args.trip.0 rows _ _ _ c.trip_rows-rows.ensures is added)
           c.add_rows-2.ensures.told;
       order = on_ok_weaker c.add_rows-2.result (λ later was. trip_later c.args.trip.0 _ _ (later was)) c.add_rows-2.ensures.order;
+      noted = on_ok_weaker c.add_rows-2.result (λ more. more q (rows_timed c.args.times c.args.feed.now c.soundness.ensures c.args.trip.0 rows _ c.trip_rows-rows.ensures is)) c.add_rows-2.ensures.noted;
     }

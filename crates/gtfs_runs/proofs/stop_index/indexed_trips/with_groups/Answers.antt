@@ -16,7 +16,7 @@ loop-n-preserved c =
     let new = c.if-n-gt0.group in
     let x = c.index-sorted-n-in-loop-n.result in
     let t = (get_or xs n x).trip.0 in
-    let y : IndexedTrip = record { group = new; start = c.index_mut.result.now.start; has_frequencies = c.index_mut.result.now.has_frequencies } in
+    let y : IndexedTrip = record { group = new; service = c.index_mut.result.now.service; start = c.index_mut.result.now.start; has_frequencies = c.index_mut.result.now.has_frequencies } in
     let within : n < length xs = c.loop-n-test.true in
     let size : length ys ≡ length c.args.trips.items = sym (length-map ys (λ z. z.start)) ∙ ap length c.loop-n.invariant.starts ∙ length-map c.args.trips.items (λ z. z.start) in
     let inside : t < length ys = omega (arith, size, c.requires.within n x within) in
@@ -24,6 +24,7 @@ loop-n-preserved c =
     let more = numbered_more xs ys n t old new y within inside (λ d. ap (λ z. z.trip.0) (get_or_default xs n d x within))
     (λ k d before same. stands_once xs c.requires.once k n d before within (same ∙ ap (λ z. z.trip.0) (get_or_default xs n x d within))) refl in
     record {
+      services = kept_by (λ z. z.service) ys t c.index_mut.result.now y c.index_mut.ensures.value refl ∙ c.loop-n.invariant.services;
       starts = kept_by (λ z. z.start) ys t c.index_mut.result.now y c.index_mut.ensures.value refl ∙ c.loop-n.invariant.starts;
       marks = kept_by (λ z. z.has_frequencies) ys t c.index_mut.result.now y c.index_mut.ensures.value refl ∙ c.loop-n.invariant.marks;
       numbered = elim c.if-n-gt0.branch [
@@ -48,4 +49,4 @@ loop-n-preserved c =
     }
 
 pub returns-clause-kept : goal.returns-clause-kept
-returns-clause-kept c = (c.loop-n.invariant.starts, c.loop-n.invariant.marks)
+returns-clause-kept c = (c.loop-n.invariant.services, c.loop-n.invariant.starts, c.loop-n.invariant.marks)

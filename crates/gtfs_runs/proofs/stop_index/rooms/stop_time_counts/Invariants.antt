@@ -1,5 +1,5 @@
 use Rattle.std.proofs.Common.{◌≡◌, length}
 use Rattle.gtfs_runs.proofs.stop_index.rooms.stop_time_counts.Given as goal
 
-abbrev pub invariant-loop-number : goal.invariant-loop-number
-invariant-loop-number l = length l.counts.items ≡ length l.feed.stops
+abbrev pub invariant-loop-trip : goal.invariant-loop-trip
+invariant-loop-trip l = length l.counts.items ≡ length l.feed.stops

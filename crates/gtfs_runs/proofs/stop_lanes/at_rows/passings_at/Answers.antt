@@ -1,26 +1,25 @@
-use Rattle.std.proofs.Common.{◌≤◌, ◌++◌, ◌∙◌, map, sym, ap, subst}
-use Rattle.std.specs.List.{All}
-use Rattle.gtfs_times.specs.TimedRows.{timed_parts}
-use Rattle.gtfs_runs.specs.steps.Places.{IsStopTime, passing_in}
-use Rattle.gtfs_runs.proofs.PlacePassings.{from_none}
-use Rattle.gtfs_runs.proofs.stop_lanes.at_rows.passings_at.Goals.{in-Given+in_ok-push_given-in-Given, in-Interpolated+in_ok-push_timed-in-Interpolated}
+use Rattle.std.proofs.Common.{◌∙◌, get_or, ap, arith}
+use Rattle.std.proofs.lemmas.List.{get_or_default}
+use Rattle.gtfs_runs.specs.declared.stop_index.DepartureRow.{DepartureRow}
+use Rattle.gtfs_runs.specs.steps.Noted.{noted_passing}
+use Rattle.gtfs_runs.proofs.PlacePassings.{no_row}
+use Rattle.gtfs_runs.proofs.Pushes.{mapped-all, pushed-more}
 use Rattle.gtfs_runs.proofs.stop_lanes.at_rows.passings_at.Goals as goal
 
-pub push_given-requires-clause-rows : goal.push_given-requires-clause-rows
-push_given-requires-clause-rows c = subst (λ t. All (IsStopTime (timed_parts t c.args.feed.now)) c.args.rows.now) c.in-Given.is c.requires.rows
+pub trip_at-requires : goal.trip_at-requires
+trip_at-requires c =
+    let here = c.requires c.loop-row.row-index no_row c.loop-row-test.true in
+    omega (arith, here, c.trip.ensures)
+
+pub loop-row-preserved : goal.loop-row-preserved
+loop-row-preserved c = λ e.
+    let trips = c.args.trips.now in
+    let rows = c.args.rows.now in
+    let n = c.loop-row.row-index in
+    let x : DepartureRow = get_or rows n no_row in
+    pushed-more (λ z. noted_passing (get_or trips z.trip e).start z) rows n x _ _ c.passing.result c.loop-row-test.true (get_or_default rows n no_row x c.loop-row-test.true)
+    (c.loop-row.invariant e) c.in_ok-push.ensures.items
+    (c.passing.ensures ∙ ap (λ z. noted_passing z.start x) (c.trip_at.ensures e ∙ ap (λ t. get_or trips t e) c.trip.ensures))
 
 pub returns : goal.returns
-returns c =
-    let p = c.args.feed.now in
-    elim c.match-times.branch [
-      | in-Given+in_ok-push_given-in-Given w ↦
-          let told = w.in_ok-push_given-in-Given.ensures in
-          from_none (timed_parts c.args.times p) c.args.rows.now c.in_ok-passings.passings.items c.match-times.passings.items c.in_ok-passings.ensures.items
-          (λ d. ap (λ v. v.items) w.passings-is ∙ told.passings d ∙ ap (λ t. c.in_ok-passings.passings.items ++ map (passing_in (timed_parts t p) d) c.args.rows.now) (sym w.in-Given.is))
-          (λ were. subst (λ v. All (λ x. x.after ≤ 3_599_999) v.items) (sym w.passings-is) (told.after were))
-      | in-Interpolated+in_ok-push_timed-in-Interpolated w ↦
-          let told = w.in_ok-push_timed-in-Interpolated.ensures in
-          from_none (timed_parts c.args.times p) c.args.rows.now c.in_ok-passings.passings.items c.match-times.passings.items c.in_ok-passings.ensures.items
-          (λ d. ap (λ v. v.items) w.passings-is ∙ told.passings d)
-          (λ were. subst (λ v. All (λ x. x.after ≤ 3_599_999) v.items) (sym w.passings-is) (told.after were))
-    ]
+returns c = λ e. mapped-all (λ z. noted_passing (get_or c.args.trips.now z.trip e).start z) c.args.rows.now c.loop-row.row-index _ c.loop-row-test.false (c.loop-row.invariant e)

@@ -5,7 +5,7 @@ use Rattle.gtfs_runs.proofs.stop_lanes.at_rows.rows_of.Goals as goal
 
 pub loop-count-preserved : goal.loop-count-preserved
 loop-count-preserved c =
-    let none : DepartureRow = record { trip = 0; row = 0 } in
+    let none : DepartureRow = record { trip = 0; row = 0; left = 0; sequence = 0 } in
     let inside : c.loop-count.count < length c.args.rows.now = c.loop-count-test.true in
     record {
       upto = omega (arith, inside);
@@ -17,7 +17,7 @@ returns-else-trip-clause-value c =
     let xs = c.args.rows.now in
     let n = c.loop-count.count in
     let t = c.args.trip.0 in
-    let none : DepartureRow = record { trip = 0; row = 0 } in
+    let none : DepartureRow = record { trip = 0; row = 0; left = 0; sequence = 0 } in
     first_ones xs n t c.requires.up (λ k d within. c.requires.first d k within) c.loop-count.invariant.upto c.loop-count.invariant.own
     (λ d within. other_trip xs n t none d within (λ same. c.if-trip.false (c.trip.ensures ∙ same)))
 

@@ -12,5 +12,5 @@ invariant-loop-passing l = record {
   events : (p : Parts) → map (stopping_of p) l.listed.items
       ≡ map (stopping_of p) l.fn.listed.items ++ map (stopping_at (trip_group p l.trip.0).1 (trip_group p l.trip.0).0 l.trip.0 l.indexed.start) (take l.passing-index l.passings);
   groups : (groups : ℕ → ℕ) → groups l.trip.0 ≡ l.indexed.group → All (λ x. groups x.trip ≡ x.group) l.fn.listed.items → All (λ x. groups x.trip ≡ x.group) l.listed.items;
-  services : (p : Parts) → (trip_group p l.trip.0).0 ≡ l.service.0 → AreServed p l.fn.listed.items → AreServed p l.listed.items;
+  services : (p : Parts) → (trip_group p l.trip.0).0 ≡ l.indexed.service → AreServed p l.fn.listed.items → AreServed p l.listed.items;
 }

@@ -1,17 +1,6 @@
-use Rattle.std.proofs.Common.{[], ◌∙◌, sym, ap}
-use Rattle.std.specs.Prelude.{option_map, unwrap_or}
-use Rattle.std.proofs.lemmas.Option.{get_or_from_slice_get}
+use Rattle.std.proofs.Common.{◌∙◌}
 use Rattle.std.proofs.lemmas.Result.{on_ok_weaker}
-use Rattle.gtfs_rows.specs.Trips.{stop_rows_by_trip}
-use Rattle.gtfs_runs.specs.steps.Passings.{first_left}
 use Rattle.gtfs_runs.proofs.stop_lanes.found.add_trip.Goals as goal
-
-pub add_passings-requires-clause-start : goal.add_passings-requires-clause-start
-add_passings-requires-clause-start c =
-    c.trip_start.ensures.value ∙ ap first_left (sym (get_or_from_slice_get (stop_rows_by_trip c.args.feed.now) c.args.trip.0 c.trip_rows.result.now [] c.trip_rows.ensures))
-
-pub add_passings-requires-clause-service : goal.add_passings-requires-clause-service
-add_passings-requires-clause-service c = sym (ap (λ o. unwrap_or (option_map (λ u. u.service_id.0) o) 0) c.trip_by_number.ensures)
 
 pub returns : goal.returns
 returns c = record {

@@ -5,10 +5,10 @@ use Rattle.gtfs_times.specs.TimedRows.{timed_parts}
 use Rattle.gtfs_runs.specs.StopLanes.{period_value}
 use Rattle.gtfs_runs.specs.steps.Courses.{stopping_of}
 use Rattle.gtfs_runs.specs.steps.Finds.{AreFound}
-use Rattle.gtfs_runs.specs.steps.Places.{ArePassingsAt, ArePlaceRows, AreServicesAt, first_trip}
+use Rattle.gtfs_runs.specs.steps.Places.{ArePassingsAt, ArePlaceRows, first_trip}
 use Rattle.gtfs_runs.proofs.Chunks.{left_more, upto_more}
 use Rattle.gtfs_runs.proofs.PlaceFinds.{nothing_left, raised, rows_raised}
-use Rattle.gtfs_runs.proofs.PlacePassings.{left_passings, left_services, passings_counted}
+use Rattle.gtfs_runs.proofs.PlacePassings.{left_passings, passings_counted}
 use Rattle.gtfs_runs.proofs.stop_lanes.indexed.add_rows.Goals as goal
 
 pub add_trip-requires-clause-rows : goal.add_trip-requires-clause-rows
@@ -79,10 +79,3 @@ slice_bounds-add_trip-count-in-loop-at c =
 pub slice_bounds-add_trip-start-in-loop-at : goal.slice_bounds-add_trip-start-in-loop-at
 slice_bounds-add_trip-start-in-loop-at c =
     omega (arith, c.loop-at-test.true, passings_counted (timed_parts c.args.times c.args.feed.now) c.args.rows.now c.args.passings.now c.requires.passings)
-
-pub add_trip-requires-clause-services : goal.add_trip-requires-clause-services
-add_trip-requires-clause-services c =
-    let p = c.args.feed.now in
-    let at = c.loop-at.at in
-    subst (λ l. AreServicesAt p l (take (length c.args.services.now - at) (drop at c.args.services.now))) (sym (take_rest c.args.rows.now at))
-    (subst (AreServicesAt p (drop at c.args.rows.now)) (sym (take_rest c.args.services.now at)) (left_services p at c.args.rows.now c.args.services.now c.requires.services))

@@ -8,7 +8,7 @@ use Rattle.gtfs_runs.specs.declared.stop_index.DepartureRow.{DepartureRow}
 use Rattle.gtfs_runs.specs.steps.Courses.{stopping_of}
 use Rattle.gtfs_runs.specs.steps.Finds.{AreFound}
 use Rattle.gtfs_runs.specs.steps.Places.{ArePlaceRows, first_trip, passing_in}
-use Rattle.gtfs_runs.proofs.GroupFacts.{marked_at, no_trip, starts_at, trips_counted}
+use Rattle.gtfs_runs.proofs.GroupFacts.{marked_at, no_trip, served_at, starts_at, trips_counted}
 use Rattle.gtfs_runs.proofs.PlaceFinds.{are-passings, first_within, raised, rows_raised}
 use Rattle.gtfs_runs.proofs.PlacePassings.{of_one_trip, passings_counted}
 use Rattle.gtfs_runs.proofs.PlaceRows.{first_counted, first_is, first_lowest, left_rows, own_all, own_trip, own_up}
@@ -21,7 +21,7 @@ pub rows_of-count-requires-clause-first : goal.rows_of-count-requires-clause-fir
 rows_of-count-requires-clause-first c = λ d k within.
     let xs = c.args.rows.now in
     let n = length c.args.feed.now.trips in
-    let x : DepartureRow = record { trip = 0; row = 0 } in
+    let x : DepartureRow = record { trip = 0; row = 0; left = 0; sequence = 0 } in
     let same : first_trip n xs ≡ c.trip-trip.result.0 = first_is n xs x c.requires.some ∙ sym c.trip-trip.ensures in
     let low = first_lowest n xs c.requires.rows.in_order k d within in
     omega (arith, low, same)
@@ -31,7 +31,7 @@ add_passings-requires-clause-trip c =
     let p = c.args.feed.now in
     let q = timed_parts c.args.times p in
     let xs = c.args.rows.now in
-    let x : DepartureRow = record { trip = 0; row = 0 } in
+    let x : DepartureRow = record { trip = 0; row = 0; left = 0; sequence = 0 } in
     let t = c.trip-trip.result.0 in
     let same : first_trip (length p.trips) xs ≡ t = first_is (length p.trips) xs x c.requires.some ∙ sym c.trip-trip.ensures in
     first_within q c.args.stop.0 t xs (subst (λ n. ArePlaceRows q c.args.stop.0 n xs) same c.requires.rows) same c.requires.some
@@ -43,7 +43,7 @@ returns c =
     let sound = sound-timed p c.soundness.ensures c.args.times in
     let s = c.args.stop.0 in
     let xs = c.args.rows.now in
-    let x : DepartureRow = record { trip = 0; row = 0 } in
+    let x : DepartureRow = record { trip = 0; row = 0; left = 0; sequence = 0 } in
     let t = c.trip-trip.result.0 in
     let n = c.rows_of-count.result in
     let is = c.rows_of-count.ensures.value in
@@ -74,7 +74,7 @@ trip_at-indexed-requires c =
     let p = c.args.feed.now in
     let q = timed_parts c.args.times p in
     let xs = c.args.rows.now in
-    let x : DepartureRow = record { trip = 0; row = 0 } in
+    let x : DepartureRow = record { trip = 0; row = 0; left = 0; sequence = 0 } in
     let t = c.trip-trip.result.0 in
     let same : first_trip (length p.trips) xs ≡ t = first_is (length p.trips) xs x c.requires.some ∙ sym c.trip-trip.ensures in
     let within : t < length p.trips = first_within q c.args.stop.0 t xs (subst (λ n. ArePlaceRows q c.args.stop.0 n xs) same c.requires.rows) same c.requires.some in
@@ -85,18 +85,29 @@ add_passings-requires-clause-start c =
     let p = c.args.feed.now in
     let q = timed_parts c.args.times p in
     let xs = c.args.rows.now in
-    let x : DepartureRow = record { trip = 0; row = 0 } in
+    let x : DepartureRow = record { trip = 0; row = 0; left = 0; sequence = 0 } in
     let t = c.trip-trip.result.0 in
     let same : first_trip (length p.trips) xs ≡ t = first_is (length p.trips) xs x c.requires.some ∙ sym c.trip-trip.ensures in
     let within : t < length p.trips = first_within q c.args.stop.0 t xs (subst (λ n. ArePlaceRows q c.args.stop.0 n xs) same c.requires.rows) same c.requires.some in
     ap (λ z. z.start) (c.trip_at-indexed.ensures no_trip) ∙ starts_at p c.soundness.ensures c.args.trips.now c.requires.trips.starts t no_trip within
+
+pub add_passings-requires-clause-service : goal.add_passings-requires-clause-service
+add_passings-requires-clause-service c =
+    let p = c.args.feed.now in
+    let q = timed_parts c.args.times p in
+    let xs = c.args.rows.now in
+    let x : DepartureRow = record { trip = 0; row = 0; left = 0; sequence = 0 } in
+    let t = c.trip-trip.result.0 in
+    let same : first_trip (length p.trips) xs ≡ t = first_is (length p.trips) xs x c.requires.some ∙ sym c.trip-trip.ensures in
+    let within : t < length p.trips = first_within q c.args.stop.0 t xs (subst (λ n. ArePlaceRows q c.args.stop.0 n xs) same c.requires.rows) same c.requires.some in
+    ap (λ z. z.service) (c.trip_at-indexed.ensures no_trip) ∙ served_at p c.args.trips.now c.requires.trips.serving t no_trip within
 
 pub add_passings-requires-clause-marked : goal.add_passings-requires-clause-marked
 add_passings-requires-clause-marked c = λ fs at.
     let p = c.args.feed.now in
     let q = timed_parts c.args.times p in
     let xs = c.args.rows.now in
-    let x : DepartureRow = record { trip = 0; row = 0 } in
+    let x : DepartureRow = record { trip = 0; row = 0; left = 0; sequence = 0 } in
     let t = c.trip-trip.result.0 in
     let same : first_trip (length p.trips) xs ≡ t = first_is (length p.trips) xs x c.requires.some ∙ sym c.trip-trip.ensures in
     let within : t < length p.trips = first_within q c.args.stop.0 t xs (subst (λ n. ArePlaceRows q c.args.stop.0 n xs) same c.requires.rows) same c.requires.some in
@@ -105,7 +116,7 @@ add_passings-requires-clause-marked c = λ fs at.
 pub add_passings-requires-clause-after : goal.add_passings-requires-clause-after
 add_passings-requires-clause-after c = All-take (λ x. x.after ≤ 3_599_999) c.rows_of-count.result c.args.passings.now c.requires.passings.after
 
-pub slice_bounds-add_passings-end : goal.slice_bounds-add_passings-end
-slice_bounds-add_passings-end c =
+pub slice_bounds-own-end : goal.slice_bounds-own-end
+slice_bounds-own-end c =
     let counted = passings_counted (timed_parts c.args.times c.args.feed.now) c.args.rows.now c.args.passings.now c.requires.passings in
     sym (length-take-le c.rows_of-count.result c.args.passings.now (omega (arith, c.rows_of-count.ensures.upto, counted)))

@@ -13,12 +13,12 @@ use Rattle.gtfs_runs.proofs.stop_lanes.numbered.group_at.Goals as goal
 pub returns : goal.returns
 returns c =
     let xs : List GroupedTrip = c.args.trips.now in
-    let group = group_of c.of-trip.result in
+    let group = group_of c.in_ok-trip.trip in
     let test : GroupedTrip → Bool = λ x. is_lt (group_cmp (group_of x) group) in
     let n = c.partition_point.result in
     let parted = IsPartitionPoint-from_clause test xs n c.partition_point.ensures.partitioned (below_first group_cmp groups_total group_of xs group c.requires.in_order) (λ a r f k. search (rules, of_calls)) in
     let counted = parted_tally test xs n c.partition_point.ensures.bound parted.0 parted.1 in
     IfOk-weaker c.small_number.result _ _
     (λ number is d. is ∙ counted
-    ∙ ap (below xs) (c.of-trip.ensures.group ∙ ap (trip_group c.args.feed.now) (c.trip.ensures ∙ ap (λ x. x.trip) (get_or_default c.args.listed.now c.args.n no_event d c.requires.within))))
+    ∙ ap (below xs) (c.in_ok-trip.ensures.group ∙ ap (trip_group c.args.feed.now) (c.trip.ensures ∙ ap (λ x. x.trip) (get_or_default c.args.listed.now c.args.n no_event d c.requires.within))))
     c.small_number.ensures
