@@ -32,7 +32,7 @@ all_alike f es y all i j d before within = all i d (omega (arith, before, within
 
 -- an element that stands nowhere
 abbrev pub no_event : Listed
-no_event = record { group = 0; row = 0; at = 0; trip = 0; run = 0; seq = 0; service = 0 }
+no_event = record { group = 0; row = 0; at = 0; trip = 0; run = 0; seq = 0; service = 0; rank = 0 }
 
 module _ (p : Parts) (xs : List Listed) (n : ℕ) (first : Listed) (some : 0 < n) (upto : n ≤ length xs) (up : Ascends stopping_cmp (map (stopping_of p) xs))
     (same : (k : ℕ) (d : Listed) → k < n → ◌≡◌ {A = CourseNo} (stopping_of p (get_or xs k d)).course (stopping_of p (get_or xs 0 d)).course) (head : first ≡ get_or xs 0 first) where

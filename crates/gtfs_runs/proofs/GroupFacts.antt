@@ -259,7 +259,7 @@ module _ (p : Parts) (sound : IsSoundParts p) (xs sorted : List GroupedTrip) (sa
 
 -- an element that stands nowhere
 abbrev pub no_trip : IndexedTrip
-no_trip = record { group = 0; service = 0; start = 0; has_frequencies = false }
+no_trip = record { group = 0; rank = 0; service = 0; start = 0; has_frequencies = false }
 
 -- when a trip starts
 pub starts_at : (p : Parts) → IsSoundParts p → (trips : List IndexedTrip) → AreStarted p trips → (t : ℕ) (e : IndexedTrip) → t < length p.trips

@@ -146,7 +146,13 @@ same_order p x y is =
         ≡ course_no_cmp (stopping_of q a).course (stopping_of q b).course
     same_course_order q a b = then_assoc (nat_cmp (trip_group q a.trip).0 (trip_group q b.trip).0) _ (nat_cmp a.row b.row)
 
--- that of the fields, of which the service is the last
+-- what is not less by two things is not less by the first
+pub first_not_less : (r s : Ordering) → is_lt (ordering_then r s) ≡ false → is_lt r ≡ false
+first_not_less Less s is = is
+first_not_less Equal s is = λ i. false
+first_not_less Greater s is = λ i. false
+
+-- that of the fields, of which the service and the rank are the last
 abbrev pub field_cmp : Listed → Listed → Ordering
 field_cmp = then_cmp (on (λ x. x.group) nat_cmp)
     (then_cmp (on (λ x. x.row) nat_cmp)
@@ -154,24 +160,23 @@ field_cmp = then_cmp (on (λ x. x.group) nat_cmp)
     (then_cmp (on (λ x. x.trip) nat_cmp)
     (then_cmp (on (λ x. x.run) nat_cmp)
     (then_cmp (on (λ x. x.seq) nat_cmp)
-    (on (λ x. x.service) nat_cmp))))))
+    (then_cmp (on (λ x. x.service) nat_cmp)
+    (on (λ x. x.rank) nat_cmp)))))))
 
--- what is not less by the fields is not less without the service
+-- what is not less by the fields is not less without the service and the rank
 without_service : (x y : Listed) → is_lt (field_cmp x y) ≡ false → is_lt (listed_cmp x y) ≡ false
-without_service x y h = first (listed_cmp x y) (nat_cmp x.service y.service) (ap is_lt (sym apart) ∙ h)
+without_service x y h = first_not_less (listed_cmp x y) last (ap is_lt (sym apart) ∙ h)
   where
-    first : (r s : Ordering) → is_lt (ordering_then r s) ≡ false → is_lt r ≡ false
-    first Less s is = is
-    first Equal s is = λ i. false
-    first Greater s is = λ i. false
+    last : Ordering
+    last = ordering_then (nat_cmp x.service y.service) (nat_cmp x.rank y.rank)
 
     further : (r s t u : Ordering) → s ≡ ordering_then t u → ordering_then r s ≡ ordering_then (ordering_then r t) u
     further r s t u is = ap (ordering_then r) is ∙ sym (then_assoc r t u)
 
-    apart : field_cmp x y ≡ ordering_then (listed_cmp x y) (nat_cmp x.service y.service)
+    apart : field_cmp x y ≡ ordering_then (listed_cmp x y) last
     apart =
         further (nat_cmp x.group y.group) _ _ _ (further (nat_cmp x.row y.row) _ _ _ (further (nat_cmp x.at y.at) _ _ _ (further (nat_cmp x.trip y.trip) _ _ _
-        (sym (then_assoc (nat_cmp x.run y.run) (nat_cmp x.seq y.seq) (nat_cmp x.service y.service))))))
+        (sym (then_assoc (nat_cmp x.run y.run) (nat_cmp x.seq y.seq) last)))))
 
 pub in_order : (p : Parts) (xs : List Listed) → AreNumbered p xs → IsSorted field_cmp xs → IsSorted (λ x y. stopping_cmp (stopping_of p x) (stopping_of p y)) xs
 in_order p xs numbers up k d from within =

@@ -2,6 +2,7 @@ ghost use Rattle.std.specs.Prelude.{◌≡◌, ◌<◌, IfOk, length};
 ghost use Rattle.std.specs.List.Sorted.{IsPermutation, IsSorted};
 ghost use Rattle.gtfs_runs.specs.steps.Groups.{group_cmp, group_of, stops_in, trip_group};
 
+use crate::departure_row::trip_start;
 use crate::stop_index::small_number;
 use gtfs_feed::Feed;
 use gtfs_field::OutOfMemory;
@@ -17,6 +18,8 @@ pub(crate) struct GroupedTrip {
     // The stops of the trip. Trips are compared often, and their stop times lie far apart, so the
     // numbers of the stops are kept together.
     stops: Vec<u32>,
+    // The second at which it leaves its first stop.
+    start: u32,
 }
 
 impl GroupedTrip {
@@ -26,10 +29,12 @@ impl GroupedTrip {
         ensures trip { IfOk result (λ grouped. grouped.trip ≡ trip) }
         ensures group { IfOk result (λ grouped. group_of grouped ≡ trip_group feed.now trip.0) }
     {
+        let rows = feed.trip_rows(trip);
         Ok(GroupedTrip {
             trip,
             service: feed.trip_by_number(trip).service_id,
-            stops: stops_of(alloc, feed.trip_rows(trip))?,
+            stops: stops_of(alloc, rows)?,
+            start: trip_start(rows),
         })
     }
 
@@ -52,12 +57,12 @@ fn stops_of(alloc: Global, rows: &[StopRow]) -> Result<Vec<u32>, OutOfMemory>
     Ok(stops)
 }
 
-// The trips by group.
+// The trips by group. Those of a group stand by when they start.
 pub(crate) fn by_group(mut trips: Vec<GroupedTrip>) -> Vec<GroupedTrip>
     ensures same { IsPermutation trips.items result.items }
     ensures in_order { IsSorted (λ x y. group_cmp (group_of x) (group_of y)) result.items }
 {
-    trips.sort_unstable_by(|a, b| group_order(a, b));
+    trips.sort_unstable_by(|a, b| group_order(a, b).then(a.start.cmp(&b.start)));
     trips
 }
 

@@ -85,7 +85,7 @@ impl DepartureRow {
 /// of which the lanes of any stop can be made without a look at the other trips.
 ///
 /// It keeps a vector for each stop, sixteen bytes for each stop time, eight for each stop or
-/// platform with a parent, and sixteen for each trip.
+/// platform with a parent, and twenty for each trip.
 #[derive(Drop)]
 pub struct StopIndex<'a> {
     feed: &'a Feed,
@@ -111,8 +111,8 @@ impl<'a> StopIndex<'a> {
     /// times are filled are departure rows too.
     ///
     /// It looks at each stop time of the feed to see how much room each stop needs, and then at
-    /// each for the departure rows, which it does not sort. It sorts the trips by service and
-    /// stops, and until then it keeps four bytes more for each stop time. A trip with times to fill
+    /// each for the departure rows, which it does not sort. It sorts the trips by service, stops
+    /// and start, and until then it keeps four bytes more for each stop time. A trip with times to fill
     /// is copied for as long as its departure rows are looked for.
     ///
     /// GTFS Schedule Reference, `stop_times.txt`, and `parent_station` of `stops.txt`.

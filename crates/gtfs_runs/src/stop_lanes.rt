@@ -9,22 +9,22 @@ ghost use Rattle.gtfs_times.specs.Filling.{timed};
 mod at_rows;
 mod found;
 mod indexed;
+mod lanes;
 mod latest;
 mod listed;
 mod lists;
 mod numbered;
 mod passing;
 mod split;
-mod whole;
 
 use crate::filled_lane::FilledLane;
 use crate::list_lane::ListLane;
 use crate::step_lane::StepLane;
 use crate::steps::Steps;
 use crate::stop_index::StopIndex;
+use crate::stop_lanes::lanes::{lanes_of_feed, lanes_of_index};
 use crate::stop_lanes::latest::latest;
 use crate::stop_lanes::split::split;
-use crate::stop_lanes::whole::{whole, whole_in_index};
 use gtfs_feed::Feed;
 use gtfs_field::OutOfMemory;
 use gtfs_rows::StopNo;
@@ -69,8 +69,8 @@ impl StopLanes {
     /// steps, which begins at 0: nothing else makes one.
     ///
     /// It goes once over the stops of all stop times, as they stand in memory, and then looks at
-    /// the trips that pass the place. It sorts those without frequencies by service and stops, and
-    /// then their events there by numbers. A row of `frequencies.txt` takes the same memory however
+    /// the trips that pass the place. It sorts those without frequencies by service, stops and
+    /// start, and then their events there by numbers. A row of `frequencies.txt` takes the same memory however
     /// many runs it has. A trip with times to fill is copied for as long as it is looked at.
     ///
     /// GTFS Schedule Reference, `stop_times.txt`, `frequencies.txt`,
@@ -78,7 +78,7 @@ impl StopLanes {
     ///
     /// # Errors
     /// [`OutOfMemory`] where memory ran out, or where the feed has more than 4,294,967,296 stops,
-    /// services, trips or stop times of a trip.
+    /// services, trips, stop times of a trip or stop times at the place.
     pub fn build(
         alloc: Global,
         feed: &Feed,
@@ -95,8 +95,8 @@ impl StopLanes {
             (text_of_number (stop_ids feed.now) stop.0)) }
         ensures steps { IfOk result (λ built. built.1 ≡ 0) }
     {
-        let (lists, periods) = whole(alloc, feed, stop, times)?;
-        StopLanes::of_whole(alloc, feed, stop, times, lists, periods)
+        let (lists, periods) = lanes_of_feed(alloc, feed, stop, times)?;
+        StopLanes::with_filled_apart(alloc, feed, stop, times, lists, periods)
     }
 
     /// The lanes of the place of a stop, made of an index: those that [`StopLanes::build`] makes of
@@ -104,13 +104,15 @@ impl StopLanes {
     ///
     /// It looks at the departure rows at the place, as the index has them, and under
     /// [`Times::Interpolated`] at whether the stop times there have a time. It sorts the events
-    /// there by numbers, which the index has, and compares no stops.
+    /// there by numbers, which the index has, and compares no stops. By the trips' order in the
+    /// index most stand in order at once.
     ///
     /// GTFS Schedule Reference, `stop_times.txt`, `frequencies.txt`,
     /// and `parent_station` of `stops.txt`.
     ///
     /// # Errors
-    /// [`OutOfMemory`] where memory ran out.
+    /// [`OutOfMemory`] where memory ran out, or where more than 4,294,967,296 stop times are at the
+    /// place.
     pub fn from_index(
         alloc: Global,
         index: &StopIndex<'_>,
@@ -129,12 +131,12 @@ impl StopLanes {
             (text_of_number (stop_ids index.now.feed) stop.0)) }
         ensures steps { IfOk result (λ built. built.1 ≡ 0) }
     {
-        let (lists, periods) = whole_in_index(alloc, index, stop)?;
-        StopLanes::of_whole(alloc, index.feed(), stop, index.times(), lists, periods)
+        let (lists, periods) = lanes_of_index(alloc, index, stop)?;
+        StopLanes::with_filled_apart(alloc, index.feed(), stop, index.times(), lists, periods)
     }
 
     // The lanes of a stop of the feed, of these lists and periods, which are all that it has.
-    fn of_whole(
+    fn with_filled_apart(
         alloc: Global,
         feed: &Feed,
         stop: StopNo,

@@ -21,6 +21,9 @@ use std::alloc::Global;
 pub(crate) struct IndexedTrip {
     // The number of its group, by which groups are compared.
     pub(crate) group: u32,
+    // How many trips come before it by group and start, 0 until it is known. Where a vehicle does
+    // not overtake another of its group, their departures from a stop stand in this order.
+    pub(crate) rank: u32,
     pub(crate) service: u32,
     // The second at which it leaves its first stop.
     pub(crate) start: u32,
@@ -42,6 +45,7 @@ impl IndexedTrip {
     {
         Ok(IndexedTrip {
             group: 0,
+            rank: 0,
             service: small_number(feed.trip_by_number(trip).service_id.0)?,
             start: trip_start(feed.trip_rows(trip)),
             has_frequencies: !feed.trip_frequencies(trip).is_empty(),
@@ -111,10 +115,13 @@ fn with_groups(
 {
     let mut group = 0;
     for n in 0..sorted.len() {
+        let rank = small_number(n)?;
         if n > 0 && group_order(&sorted[n - 1], &sorted[n]).is_lt() {
-            group = small_number(n)?;
+            group = rank;
         }
-        trips[sorted[n].trip.0].group = group;
+        let trip = &mut trips[sorted[n].trip.0];
+        trip.group = group;
+        trip.rank = rank;
     }
     Ok(trips)
 }

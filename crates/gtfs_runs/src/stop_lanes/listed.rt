@@ -1,6 +1,7 @@
-ghost use Rattle.std.specs.Prelude.{◌≡◌, ◌≤◌, IfOk, map};
+ghost use Rattle.std.specs.Prelude.{◌≡◌, ◌≤◌, ◌<◌, All, IfOk, length, map, slice_index_or};
 ghost use Rattle.std.specs.List.Sorted.{IsPermutation, IsSorted};
 ghost use Rattle.gtfs_rows.specs.declared.parts.Parts.{Parts};
+ghost use Rattle.gtfs_runs.specs.declared.stop_lanes.listed.Listed.{Listed as ListedValue};
 ghost use Rattle.gtfs_runs.specs.steps.Courses.{event_of, is_same_course, stopping_cmp, stopping_of};
 ghost use Rattle.gtfs_runs.specs.steps.Numbers.{AreNumbered, IsNumbered, is_alike};
 ghost use Rattle.gtfs_runs.specs.steps.Passings.{passing_event};
@@ -10,13 +11,14 @@ use crate::stop_index::{IndexedTrip, small_number};
 use crate::stop_lanes::passing::Passing;
 use gtfs_field::OutOfMemory;
 use gtfs_rows::{ServiceNo, TripNo};
+use std::alloc::Global;
 
 // An event of a trip without frequencies.
 //
 // Its lane is that of its course: the group of the trip and the position of the stop time.
 // The order of the fields is that of lanes, and in a lane that of events, since the trip
-// decides between those at one second. The service comes last, where it decides nothing:
-// the events of a trip have one.
+// decides between those at one second. The service and the rank come last, where they decide
+// nothing: the events of a trip have one.
 #[derive(Clone, Copy, PartialEq, Eq, PartialOrd, Ord)]
 pub(crate) struct Listed {
     // The number of the group, by which groups are compared; 0 until it is known.
@@ -28,6 +30,8 @@ pub(crate) struct Listed {
     seq: u32,
     // The service of the trip, so that a lane need not load the row of a trip for it.
     service: u32,
+    // The rank of the trip, which says where the event stands but for a few.
+    rank: u32,
 }
 
 impl Listed {
@@ -52,6 +56,7 @@ impl Listed {
             run: indexed.start,
             seq: passing.seq,
             service: indexed.service,
+            rank: indexed.rank,
         })
     }
 
@@ -83,14 +88,58 @@ impl Listed {
     }
 }
 
+// Where an event stands among others, and the rank of its trip.
+#[derive(Clone, Copy)]
+struct Ranked {
+    rank: u32,
+    at: u32,
+}
+
 // The events by course and in each course in their order.
-pub(crate) fn sorted(mut listed: Vec<Listed>) -> Vec<Listed>
-    ensures same { IsPermutation listed.items result.items }
-    ensures in_order { (p : Parts) → AreNumbered p listed.items
-        → IsSorted stopping_cmp (map (stopping_of p) result.items) }
+pub(crate) fn sorted(alloc: Global, listed: Vec<Listed>) -> Result<Vec<Listed>, OutOfMemory>
+    ensures same { IfOk result (λ found. IsPermutation listed.items found.items) }
+    ensures in_order { IfOk result (λ found. (p : Parts) → AreNumbered p listed.items
+        → IsSorted stopping_cmp (map (stopping_of p) found.items)) }
 {
-    listed.sort_unstable();
-    listed
+    let places = places_by_rank(alloc, &listed)?;
+    let mut sorted = at_places(alloc, &listed, &places)?;
+    // Mostly they stand in order by now, which one look at each tells.
+    sorted.sort_unstable();
+    Ok(sorted)
+}
+
+// The places of these events, by the ranks of their trips: a place and a rank take eight bytes, and
+// are sorted in a fraction of the time that events take.
+fn places_by_rank(alloc: Global, listed: &[Listed]) -> Result<Vec<Ranked>, OutOfMemory>
+    ensures within { IfOk result (λ places. All (λ x. x.at < length listed.now) places.items) }
+    ensures same { IfOk result (λ places. (d : ListedValue)
+        → IsPermutation listed.now (map (λ x. slice_index_or listed.now x.at d) places.items)) }
+{
+    let mut places = Vec::with_capacity(alloc, listed.len())?;
+    for at in 0..listed.len() {
+        let rank = listed[at].rank;
+        let at = small_number(at)?;
+        places.push(Ranked { rank, at })?;
+    }
+    places.sort_unstable_by_key(|place| place.rank);
+    Ok(places)
+}
+
+// The events at these places.
+fn at_places(
+    alloc: Global,
+    listed: &[Listed],
+    places: &[Ranked],
+) -> Result<Vec<Listed>, OutOfMemory>
+    requires { All (λ x. x.at < length listed.now) places.now }
+    ensures { IfOk result (λ found. (d : ListedValue)
+        → found.items ≡ map (λ x. slice_index_or listed.now x.at d) places.now) }
+{
+    let mut found = Vec::with_capacity(alloc, places.len())?;
+    for place in places {
+        found.push(listed[place.at as usize])?;
+    }
+    Ok(found)
 }
 
 // Whether two events have one course.

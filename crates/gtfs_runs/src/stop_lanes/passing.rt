@@ -83,14 +83,14 @@ fn passings_in(alloc: Global, place: &Place, rows: &[StopRow]) -> Result<Vec<Pas
     let mut found = Vec::new(alloc);
     for position in 0..rows.len() {
         if leaves_place(place, rows, position) {
-            found.push(passed(&rows[position], start, position))?;
+            found.push(passing_of(&rows[position], start, position))?;
         }
     }
     Ok(found)
 }
 
 // The stop time of this position. No vehicle leaves it before the trip starts.
-pub(crate) fn passed(row: &StopRow, start: u32, position: usize) -> Passing
+pub(crate) fn passing_of(row: &StopRow, start: u32, position: usize) -> Passing
     requires { unwrap_or (left_at row.now) 0 ≤ 3_599_999 }
     ensures value { result ≡ passing_at start (position, row.now) }
     ensures after { result.after ≤ 3_599_999 }

@@ -11,8 +11,8 @@ use Rattle.gtfs_runs.specs.steps.Whole.{AreWhole}
 use Rattle.gtfs_runs.proofs.Pushes.{none-made}
 use Rattle.gtfs_runs.proofs.stop_lanes.StopLanes.from_index.Goals as goal
 
-pub of_whole-requires : goal.of_whole-requires
-of_whole-requires c =
+pub with_filled_apart-requires : goal.with_filled_apart-requires
+with_filled_apart-requires c =
     subst (λ (r : Times × Parts). AreWhole (timed r.0 (content_of_parts r.1)) (text_of_number (stop_ids r.1) c.args.stop.0) (service_ids r.1)
     (map list_value c.in_ok-lists.lists.items) (map period_value c.in_ok-lists.periods.items))
     (λ i. (sym c.times.ensures i, sym c.feed.ensures i)) c.in_ok-lists.ensures
@@ -20,15 +20,15 @@ of_whole-requires c =
 pub returns : goal.returns
 returns c = record {
   lanes =
-      subst (λ (r : Times × Parts). IfOk c.of_whole.result (λ built. AreLanesOf (timed r.0 (content_of_parts r.1)) (text_of_number (stop_ids r.1) c.args.stop.0) (service_ids r.1) (lanes_of built.0)))
-      (λ i. (c.times.ensures i, c.feed.ensures i)) c.of_whole.ensures.lanes;
+      subst (λ (r : Times × Parts). IfOk c.with_filled_apart.result (λ built. AreLanesOf (timed r.0 (content_of_parts r.1)) (text_of_number (stop_ids r.1) c.args.stop.0) (service_ids r.1) (lanes_of built.0)))
+      (λ i. (c.times.ensures i, c.feed.ensures i)) c.with_filled_apart.ensures.lanes;
   kinds =
-      subst (λ (r : Times × Parts). IfOk c.of_whole.result (λ built. AreByKind r.0 (content_of_parts r.1) (text_of_number (stop_ids r.1) c.args.stop.0) built.0))
-      (λ i. (c.times.ensures i, c.feed.ensures i)) c.of_whole.ensures.kinds;
+      subst (λ (r : Times × Parts). IfOk c.with_filled_apart.result (λ built. AreByKind r.0 (content_of_parts r.1) (text_of_number (stop_ids r.1) c.args.stop.0) built.0))
+      (λ i. (c.times.ensures i, c.feed.ensures i)) c.with_filled_apart.ensures.kinds;
   greatest =
-      subst (λ (r : Times × Parts). IfOk c.of_whole.result (λ built. built.0.greatest ≡ latest (timed r.0 (content_of_parts r.1)) (text_of_number (stop_ids r.1) c.args.stop.0)))
-      (λ i. (c.times.ensures i, c.feed.ensures i)) c.of_whole.ensures.greatest;
-  steps = c.of_whole.ensures.steps;
+      subst (λ (r : Times × Parts). IfOk c.with_filled_apart.result (λ built. built.0.greatest ≡ latest (timed r.0 (content_of_parts r.1)) (text_of_number (stop_ids r.1) c.args.stop.0)))
+      (λ i. (c.times.ensures i, c.feed.ensures i)) c.with_filled_apart.ensures.greatest;
+  steps = c.with_filled_apart.ensures.steps;
 }
 
 pub returns-in_err-lists : goal.returns-in_err-lists

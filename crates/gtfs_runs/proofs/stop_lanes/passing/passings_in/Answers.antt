@@ -29,8 +29,8 @@ leaves_place-requires-clause-stops c = c.requires.stops
 pub leaves_place-requires-clause-ascend : goal.leaves_place-requires-clause-ascend
 leaves_place-requires-clause-ascend c = c.requires.ascend
 
-pub passed-requires : goal.passed-requires
-passed-requires c =
+pub passing_of-requires : goal.passing_of-requires
+passing_of-requires c =
     let rows = c.args.rows.now in
     let n = c.loop-position.position in
     let within = c.loop-position-test.true in
@@ -47,13 +47,13 @@ loop-position-preserved c =
     elim c.if-leaves_place.branch [
       | then-leaves_place+in_ok-push w ↦
           let same = w.index-rows-position.is ∙ get_or_default rows n w.index-rows-position.result d within in
-          let made = w.passed.ensures.value ∙ (λ i. passing_at (c.trip_start-start.ensures.value i) (n, same i)) in
+          let made = w.passing_of.ensures.value ∙ (λ i. passing_at (c.trip_start-start.ensures.value i) (n, same i)) in
           let pushed = ap (λ v. v.items) w.found-is ∙ w.in_ok-push.ensures.items in
           record {
             passings = λ p s t fs place.
-                picked_passes (passing_at (first_left rows)) (leaves p s t rows fs) rows n d c.loop-position.found.items c.if-leaves_place.found.items c.leaves_place.result w.passed.result within
+                picked_passes (passing_at (first_left rows)) (leaves p s t rows fs) rows n d c.loop-position.found.items c.if-leaves_place.found.items c.leaves_place.result w.passing_of.result within
                 (c.leaves_place.ensures p t fs d ∙ here p s t rows fs n d c.args.place.now place) w.if-leaves_place.true made (c.loop-position.invariant.passings p s t fs place) pushed;
-            after = subst (λ xs. All (λ x. x.after ≤ 3_599_999) xs) (sym pushed) (All-push (λ x. x.after ≤ 3_599_999) c.loop-position.found.items w.passed.result c.loop-position.invariant.after w.passed.ensures.after);
+            after = subst (λ xs. All (λ x. x.after ≤ 3_599_999) xs) (sym pushed) (All-push (λ x. x.after ≤ 3_599_999) c.loop-position.found.items w.passing_of.result c.loop-position.invariant.after w.passing_of.ensures.after);
           }
       | else-leaves_place w ↦
           let kept = ap (λ v. v.items) w.found-is in

@@ -14,17 +14,17 @@ use Rattle.gtfs_runs.specs.steps.Numbers.{AreNumbered, IsNumbered, listed_cmp}
 use Rattle.gtfs_runs.proofs.Chunks.{all_mapped}
 use Rattle.gtfs_runs.proofs.Numbers.{events_ascend, pairs_permuted}
 use Rattle.gtfs_runs.proofs.WholeLanes.{are_whole, strictly}
-use Rattle.gtfs_runs.proofs.stop_lanes.whole.in_lanes.Goals as goal
+use Rattle.gtfs_runs.proofs.stop_lanes.lanes.lanes_of_events.Goals as goal
 
 pub lists-requires : goal.lists-requires
 lists-requires c =
     let p = c.args.feed.now in
     let listed = c.args.listed.items in
-    let xs = c.sorted-listed.result.items in
-    let same = c.sorted-listed.ensures.same in
+    let xs = c.in_ok-listed.listed.items in
+    let same = c.in_ok-listed.ensures.same in
     let up =
     strictly (timed_parts c.args.times p) c.args.stop.0 (map (stopping_of p) listed) (map period_value c.args.periods.items) c.requires.found (map (stopping_of p) xs)
-    (IsPermutation-map (stopping_of p) listed xs same) (c.sorted-listed.ensures.in_order p c.requires.numbers) in
+    (IsPermutation-map (stopping_of p) listed xs same) (c.in_ok-listed.ensures.in_order p c.requires.numbers) in
     subst (Ascends listed_cmp) (sym c.deref.ensures.value) (events_ascend p xs (pairs_permuted (IsNumbered p) listed xs same c.requires.numbers) up)
 
 pub returns : goal.returns
@@ -33,14 +33,14 @@ returns c =
     let q = timed_parts c.args.times p in
     let listed = map (stopping_of p) c.args.listed.items in
     let periods = map period_value c.args.periods.items in
-    let xs = c.sorted-listed.result.items in
+    let xs = c.in_ok-listed.listed.items in
     let sorted = map (stopping_of p) xs in
     let lists = c.in_ok-lists.lists.items in
     let found = c.requires.found in
     let lent = c.deref.ensures.value in
-    let numbers = subst (AreNumbered p) (sym lent) (pairs_permuted (IsNumbered p) c.args.listed.items xs c.sorted-listed.ensures.same c.requires.numbers) in
-    let served : AreServed p xs = All-permutation (λ x. (trip_group p x.trip).0 ≡ x.service) c.args.listed.items xs c.sorted-listed.ensures.same c.requires.services in
-    let same : IsPermutation listed sorted = IsPermutation-map (stopping_of p) _ _ c.sorted-listed.ensures.same in
+    let numbers = subst (AreNumbered p) (sym lent) (pairs_permuted (IsNumbered p) c.args.listed.items xs c.in_ok-listed.ensures.same c.requires.numbers) in
+    let served : AreServed p xs = All-permutation (λ x. (trip_group p x.trip).0 ≡ x.service) c.args.listed.items xs c.in_ok-listed.ensures.same c.requires.services in
+    let same : IsPermutation listed sorted = IsPermutation-map (stopping_of p) _ _ c.in_ok-listed.ensures.same in
     let known : All (λ x. IsCourse q x.course) sorted = All-permutation (λ x. IsCourse q x.course) listed sorted same found.known in
     let own : All (λ x. IsListed q (stopping_of p x)) xs = all_mapped (IsListed q) (stopping_of p) xs (All-permutation (IsListed q) listed sorted same found.own) in
     let services : All (λ x. x.service < length p.services) xs = λ k d h. subst (λ n. n < length p.services) (served k d h) (all_mapped (λ x. IsCourse q x.course) (stopping_of p) xs known k d h).service in

@@ -13,7 +13,7 @@ use Rattle.gtfs_runs.proofs.LatestEvents.{latest_is}
 use Rattle.gtfs_runs.proofs.Pushes.{none-made}
 use Rattle.gtfs_runs.proofs.UntimedEvents.{given_lanes}
 use Rattle.gtfs_runs.proofs.WholeLanes.{are_by_kind}
-use Rattle.gtfs_runs.proofs.stop_lanes.StopLanes.of_whole.Goals as goal
+use Rattle.gtfs_runs.proofs.stop_lanes.StopLanes.with_filled_apart.Goals as goal
 
 pub split-requires : goal.split-requires
 split-requires c =

@@ -24,7 +24,7 @@ use gtfs_times::Times;
 use std::alloc::Global;
 
 // The lists of a stop and its periods, before the lists stand in two.
-pub(crate) fn whole(
+pub(crate) fn lanes_of_feed(
     alloc: Global,
     feed: &Feed,
     stop: StopNo,
@@ -38,11 +38,11 @@ pub(crate) fn whole(
     let place = Place::of_stop(alloc, feed, stop)?;
     let found = Found::at_place(alloc, feed, &place, times)?;
     let listed = numbered(alloc, feed, found.listed)?;
-    in_lanes(alloc, feed, stop, times, listed, found.periods)
+    lanes_of_events(alloc, feed, stop, times, listed, found.periods)
 }
 
 // The same of the departure rows that an index has there.
-pub(crate) fn whole_in_index(
+pub(crate) fn lanes_of_index(
     alloc: Global,
     index: &StopIndex<'_>,
     stop: StopNo,
@@ -55,12 +55,12 @@ pub(crate) fn whole_in_index(
 {
     let found = found_in_index(alloc, index, stop)?;
     let (listed, periods) = (found.listed, found.periods);
-    in_lanes(alloc, index.feed(), stop, index.times(), listed, periods)
+    lanes_of_events(alloc, index.feed(), stop, index.times(), listed, periods)
 }
 
 // What leaves the place of a stop of the feed, in lanes,
 // where the groups of trips have their numbers.
-fn in_lanes(
+fn lanes_of_events(
     alloc: Global,
     feed: &Feed,
     stop: StopNo,
@@ -77,7 +77,7 @@ fn in_lanes(
         (map list_value lanes.0.items) (map period_value lanes.1.items)) }
 {
     feed.soundness();
-    let listed = sorted(listed);
+    let listed = sorted(alloc, listed)?;
     let lists = lists(alloc, &listed)?;
     Ok((lists, periods))
 }
