@@ -6,7 +6,7 @@ use Rattle.std.proofs.KnownBytes.{Appends-nil, Appends-trans}
 use Rattle.gtfs_days.specs.Zone.{IsCivil}
 use Rattle.gtfs_days.specs.declared.civil.Civil.{Civil}
 use Rattle.gtfs_days.specs.declared.zone.Zone.{Zone}
-use Rattle.gtfs_board.specs.Board.{AreStepsWithin, StepCount}
+use Rattle.gtfs_board.specs.Board.{AreStepsWithin, BoardValue, SameSettings, StepCount}
 use Rattle.gtfs_board.specs.Lines.{AppendsLine, IsLine, Listed, line_text}
 use Rattle.gtfs_board.specs.Page.{AreLines, AreWritten, IsCutShort, IsPage, IsStopped}
 use Rattle.gtfs_board.specs.PageFaults.{AreFaultSteps, AreLineFaultSteps, EndsLine, EndsPage, IsCounted}
@@ -150,6 +150,20 @@ pub refused-steps : (rest left : List Listed) (s t : StepCount) → left ≡ res
 refused-steps rest left s t same = λ gone.
     let long : length left ≡ length rest = ap (λ (ds : List Listed). length ds) same in
     absurd (omega (arith, gone, long))
+
+-- ---- what a board was opened with
+
+pub same-settings : (b : BoardValue) → SameSettings b b
+same-settings b = record { lanes = refl; latest = refl; start = refl; until = refl; zone = refl }
+
+pub settings-since : (a b c : BoardValue) → SameSettings a b → SameSettings b c → SameSettings a c
+settings-since a b c before after = record {
+  lanes = after.lanes ∙ before.lanes;
+  latest = after.latest ∙ before.latest;
+  start = after.start ∙ before.start;
+  until = after.until ∙ before.until;
+  zone = after.zone ∙ before.zone;
+}
 
 -- ---- one line
 

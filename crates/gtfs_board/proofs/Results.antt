@@ -19,6 +19,9 @@ pub never_unknown : {A : Type 0} (r : Result A BoardFault) → IfErr r (λ e. e 
 never_unknown (Ok x) h is = cc
 never_unknown {A} (Err e) h is = h (fault A e UnknownStop (Err e) (Err UnknownStop) refl refl is)
 
+pub bad_is_known : BadSpan ≢ UnknownStop
+bad_is_known e = cc
+
 pub not_bad : {A : Type 0} (r : Result A BoardFault) → r ≡ Err UnknownStop → IsErrOf r BadSpan → ⊥
 not_bad {A} r unknown bad = apart (fault A UnknownStop BadSpan r r unknown bad refl)
   where

@@ -92,8 +92,3 @@ pub record SameSettings (b c : BoardValue) : Type 0 where
   pub start : c.start ≡ b.start
   pub until : c.until ≡ b.until
   pub zone : c.zone ≡ b.zone
-
--- what stays of a board while departures are taken from it
-pub record KeepsBoard (b c : BoardValue) : Type 0 where
-  pub settings : SameSettings b c
-  pub queued : IsQueued b → IsQueued c

@@ -55,8 +55,6 @@ pub use Rattle.gtfs_board.specs.Lent.{listed}
 pub use Rattle.gtfs_days.specs.Zone.{IsInstant}
 -- a board keeps its lanes, latest second, instants and zone
 pub use Rattle.gtfs_board.specs.Board.{SameSettings}
--- a board keeps its settings, and what waits stays as `IsQueued` says
-pub use Rattle.gtfs_board.specs.Board.{KeepsBoard}
 -- how many steps a board has made, and how many of them days may have cost
 pub use Rattle.gtfs_board.specs.Board.{step_count}
 -- while so many departures were taken, each cost one step at most, beside the steps for days

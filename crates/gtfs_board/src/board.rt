@@ -1,5 +1,5 @@
 //! Boards of stops.
-ghost use Rattle.std.specs.Prelude.{◌≡◌, ◌≢◌, ◌<◌, ◌≤◌, ◌∷◌, ◌↔◌, [], IfErr, All, true, false, length, IfOk, IfSome, IsErrOf, OnErr, MatchOption, option_map};
+ghost use Rattle.std.specs.Prelude.{◌≡◌, ◌≢◌, ◌<◌, ◌≤◌, ◌∷◌, ◌↔◌, [], All, IsOk, true, false, length, IfOk, IfSome, IsErrOf, OnErr, MatchOption, option_map};
 ghost use Rattle.gtfs_days.specs.Zone.{IsInstant, zone_origin};
 ghost use Rattle.gtfs_rows.specs.Views.{content_of_parts};
 ghost use Rattle.gtfs_rows.specs.Views.{service_ids, stop_ids, text_of_number};
@@ -122,10 +122,10 @@ impl<'a> Board<'a> {
             stop.now span (option_map (λ k. plain_key k.now) after.entry)) }
         ensures steps { IfOk result (λ b. b.steps ≤ steps_for_days b) }
     {
-        match feed.stop(stop) {
-            Some(number) => Board::over(alloc, feed, zone, number, span, after, times),
-            None => Err(BoardFault::UnknownStop),
-        }
+        let number = judged_stop(feed, stop, &span)?;
+        let (lanes, steps) = StopLanes::build(alloc, feed, number, times)?;
+        let board = Board::of_lanes(alloc, feed, zone, number, span, after, times, lanes, steps)?;
+        Ok(board)
     }
 
     /// The same board, made of an index in place of its feed and its times: with every clause of
@@ -158,97 +158,12 @@ impl<'a> Board<'a> {
             stop.now span (option_map (λ k. plain_key k.now) after.entry)) }
         ensures steps { IfOk result (λ b. b.steps ≤ steps_for_days b) }
     {
-        match index.feed().stop(stop) {
-            Some(number) => Board::over_indexed(alloc, index, zone, number, span, after),
-            None => Err(BoardFault::UnknownStop),
-        }
-    }
-
-    // The board of the stop of a number, if the span is valid.
-    fn over(
-        alloc: Global,
-        feed: &'a Feed,
-        zone: &'a Zone,
-        stop: StopNo,
-        span: Span,
-        after: Option<&Key<'_>>,
-        times: Times,
-    ) -> Result<Board<'a>, BoardFault>
-        requires { stop.0 < length feed.now.stops }
-        ensures known { IfErr result (λ e. e ≢ BoardFault.UnknownStop) }
-        ensures bad { IsErrOf result BoardFault.BadSpan ↔ (is_span span ≡ false) }
-        ensures opened { IfOk result (IsOpened times (content_of_parts feed.now) zone.now
-            (text_of_number (stop_ids feed.now) stop.0) span
-            (option_map (λ k. plain_key k.now) after.entry)) }
-    {
-        if !span.is_valid() {
-            return Err(BoardFault::BadSpan);
-        }
-        Ok(Board::of_stop(alloc, feed, zone, stop, span, after, times)?)
-    }
-
-    // The board of the stop of a number.
-    fn of_stop(
-        alloc: Global,
-        feed: &'a Feed,
-        zone: &'a Zone,
-        stop: StopNo,
-        span: Span,
-        after: Option<&Key<'_>>,
-        times: Times,
-    ) -> Result<Board<'a>, OutOfMemory>
-        requires stop { stop.0 < length feed.now.stops }
-        requires span { is_span span ≡ true }
-        ensures { IfOk result (IsOpened times (content_of_parts feed.now) zone.now
-            (text_of_number (stop_ids feed.now) stop.0) span
-            (option_map (λ k. plain_key k.now) after.entry)) }
-    {
-        let (lanes, steps) = StopLanes::build(alloc, feed, stop, times)?;
-        Board::of_lanes(alloc, feed, zone, stop, span, after, times, lanes, steps)
-    }
-
-    // The same of an index.
-    fn over_indexed(
-        alloc: Global,
-        index: &StopIndex<'a>,
-        zone: &'a Zone,
-        stop: StopNo,
-        span: Span,
-        after: Option<&Key<'_>>,
-    ) -> Result<Board<'a>, BoardFault>
-        requires { stop.0 < length index.now.feed.stops }
-        ensures known { IfErr result (λ e. e ≢ BoardFault.UnknownStop) }
-        ensures bad { IsErrOf result BoardFault.BadSpan ↔ (is_span span ≡ false) }
-        ensures opened { IfOk result (IsOpened
-            index.now.times (content_of_parts index.now.feed) zone.now
-            (text_of_number (stop_ids index.now.feed) stop.0) span
-            (option_map (λ k. plain_key k.now) after.entry)) }
-    {
-        if span.is_valid() {
-            Ok(Board::of_stop_indexed(alloc, index, zone, stop, span, after)?)
-        } else {
-            Err(BoardFault::BadSpan)
-        }
-    }
-
-    fn of_stop_indexed(
-        alloc: Global,
-        index: &StopIndex<'a>,
-        zone: &'a Zone,
-        stop: StopNo,
-        span: Span,
-        after: Option<&Key<'_>>,
-    ) -> Result<Board<'a>, OutOfMemory>
-        requires stop { stop.0 < length index.now.feed.stops }
-        requires span { is_span span ≡ true }
-        ensures { IfOk result (IsOpened index.now.times (content_of_parts index.now.feed) zone.now
-            (text_of_number (stop_ids index.now.feed) stop.0) span
-            (option_map (λ k. plain_key k.now) after.entry)) }
-    {
         let feed = index.feed();
+        let number = judged_stop(feed, stop, &span)?;
+        let (lanes, steps) = StopLanes::from_index(alloc, index, number)?;
         let times = index.times();
-        let (lanes, steps) = StopLanes::from_index(alloc, index, stop)?;
-        Board::of_lanes(alloc, feed, zone, stop, span, after, times, lanes, steps)
+        let board = Board::of_lanes(alloc, feed, zone, number, span, after, times, lanes, steps)?;
+        Ok(board)
     }
 
     // The board of these lanes, which are those of a stop of the feed.
@@ -327,5 +242,30 @@ impl<'a> Board<'a> {
         ensures { result.now ≡ self.now.zone }
     {
         self.zone
+    }
+}
+
+// The number of the stop of an id, if the feed has one and the span is valid. The stop is judged
+// first.
+fn judged_stop(feed: &Feed, stop: &str, span: &Span) -> Result<StopNo, BoardFault>
+    ensures unknown { IsErrOf result BoardFault.UnknownStop
+        ↔ (is_stop (content_of_parts feed.now) stop.now ≡ false) }
+    ensures bad { IsErrOf result BoardFault.BadSpan
+        ↔ ((is_stop (content_of_parts feed.now) stop.now ≡ true) × (is_span span.now ≡ false)) }
+    ensures known { is_stop (content_of_parts feed.now) stop.now ≡ true → is_span span.now ≡ true
+        → IsOk result }
+    ensures stop { IfOk result (λ n. n.0 < length feed.now.stops) }
+    ensures named { IfOk result (λ n. text_of_number (stop_ids feed.now) n.0 ≡ stop.now) }
+    ensures span { IfOk result (λ n. is_span span.now ≡ true) }
+{
+    match feed.stop(stop) {
+        Some(number) => {
+            if span.is_valid() {
+                Ok(number)
+            } else {
+                Err(BoardFault::BadSpan)
+            }
+        }
+        None => Err(BoardFault::UnknownStop),
     }
 }

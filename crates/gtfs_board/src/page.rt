@@ -4,13 +4,10 @@ ghost use Rattle.gtfs_board.specs.Board.{AreStepsWithin, IsQueued, SameSettings,
 ghost use Rattle.gtfs_board.specs.PageFaults.{AreFaultSteps, AreLineFaultSteps, EndsLine, EndsPage, IsCounted, IsLineSent};
 ghost use Rattle.gtfs_board.specs.Page.{IsPage};
 
-mod listing;
-
 use crate::board::Board;
 use crate::line::push_line_by;
 use gtfs_days::ZoneClock;
 use gtfs_table::{Out, write_text};
-use listing::Listing;
 use std::alloc::Global;
 use thiserror::Error;
 
@@ -55,34 +52,6 @@ pub fn write_page<O: Out>(
     ensures fault_steps { IfErr result (AreFaultSteps board.old.rest board.new.rest
         (step_count board.old) (step_count board.new)) }
 {
-    write_lines(alloc, board, limit, out)
-}
-
-// Writes the lines of the next departures, at most `limit`, and answers how many they were: fewer
-// only where none is left. Each line is sent out before the next departure is taken.
-//
-// Errors: `Out` where the output failed, `OutOfMemory` where memory ran out.
-pub(crate) fn write_lines<'a, B: Listing<'a>, O: Out>(
-    alloc: Global,
-    board: &mut B,
-    limit: u64,
-    out: &mut O,
-) -> Result<u64, PageFault>
-    ensures page { IfOk result (IsPage (B.clocks board.old) limit (B.rest board.old)
-        (B.rest board.new)
-        (O.told out.old) (O.told out.new)) }
-    ensures fault { IfErr result (EndsPage (B.clocks board.old) limit (B.rest board.old)
-        (B.rest board.new)
-        (O.told out.old) (O.told out.new)) }
-    ensures counted { IfErr result (IsCounted (O.failure_count out.old) (O.failure_count out.new)) }
-    ensures grows { O.failure_count out.old ≤ O.failure_count out.new }
-    ensures no_failure { OnOk result (O.failure_count out.new ≡ O.failure_count out.old) }
-    ensures keeps { (start : B) → B.Keeps start board.old → B.Keeps start board.new }
-    ensures steps { IfOk result (λ lines.
-        AreStepsWithin lines (B.steps board.old) (B.steps board.new)) }
-    ensures fault_steps { IfErr result (AreFaultSteps (B.rest board.old) (B.rest board.new)
-        (B.steps board.old) (B.steps board.new)) }
-{
     let mut clock = ZoneClock::new(board.zone());
     let mut line = String::new(alloc);
     let mut lines = 0;
@@ -97,30 +66,28 @@ pub(crate) fn write_lines<'a, B: Listing<'a>, O: Out>(
 
 // Writes the line of the next departure, by the clock of the board's zone, in a text that was used
 // before, after so many lines. Answers whether there was one.
-fn write_next<'a, B: Listing<'a>, O: Out>(
-    board: &mut B,
+fn write_next<O: Out>(
+    board: &mut Board<'_>,
     clock: &mut ZoneClock<'_>,
     line: &mut String,
     lines: u64,
     out: &mut O,
 ) -> Result<bool, PageFault>
-    requires { clock.old ≡ B.clocks board.old }
-    ensures sent { IfOk result (IsLineSent (B.clocks board.old) (B.rest board.old)
-        (B.rest board.new)
+    requires { clock.old ≡ board.old.zone }
+    ensures sent { IfOk result (IsLineSent board.old.zone board.old.rest board.new.rest
         (O.told out.old) (O.told out.new)) }
-    ensures fault { IfErr result (EndsLine (B.clocks board.old) lines (B.rest board.old)
-        (B.rest board.new)
+    ensures fault { IfErr result (EndsLine board.old.zone lines board.old.rest board.new.rest
         (O.told out.old) (O.told out.new)) }
     ensures counted { IfErr result (IsCounted (O.failure_count out.old) (O.failure_count out.new)) }
     ensures grows { O.failure_count out.old ≤ O.failure_count out.new }
     ensures no_failure { OnOk result (O.failure_count out.new ≡ O.failure_count out.old) }
-    ensures zone { B.clocks board.new ≡ B.clocks board.old }
     ensures clock { clock.new ≡ clock.old }
-    ensures keeps { (start : B) → B.Keeps start board.old → B.Keeps start board.new }
+    ensures settings { SameSettings board.old board.new }
+    ensures queued { IsQueued board.old → IsQueued board.new }
     ensures steps { IfOk result (λ more.
-        AreStepsWithin (cond more 1 0) (B.steps board.old) (B.steps board.new)) }
-    ensures fault_steps { IfErr result (AreLineFaultSteps (B.rest board.old) (B.rest board.new)
-        (B.steps board.old) (B.steps board.new)) }
+        AreStepsWithin (cond more 1 0) (step_count board.old) (step_count board.new)) }
+    ensures fault_steps { IfErr result (AreLineFaultSteps board.old.rest board.new.rest
+        (step_count board.old) (step_count board.new)) }
 {
     let departure = match board.next() {
         Ok(Some(departure)) => departure,

@@ -13,9 +13,9 @@ returns-in-Ok-None g c =
       counted = tt;
       grows = le_refl _;
       no_failure = refl;
-      zone = c.next.ensures.zone;
       clock = refl;
-      keeps = c.next.ensures.keeps;
+      settings = c.next.ensures.settings;
+      queued = λ before. c.next.ensures.queued;
       steps = next.steps;
       fault_steps = tt;
     }
@@ -23,15 +23,15 @@ returns-in-Ok-None g c =
 pub returns-in-Err : goal.returns-in-Err
 returns-in-Err g c = record {
   sent = tt;
-  fault = (refl, line-refused _ _ _ _ c.in-Err.ensures.refused);
+  fault = (refl, line-refused _ _ _ _ c.in-Err.ensures.kept.0);
   counted = refl;
   grows = le_refl _;
   no_failure = tt;
-  zone = c.next.ensures.zone;
   clock = refl;
-  keeps = c.next.ensures.keeps;
+  settings = c.next.ensures.settings;
+  queued = λ before. c.next.ensures.queued;
   steps = tt;
-  fault_steps = refused-steps _ _ _ _ c.in-Err.ensures.refused;
+  fault_steps = refused-steps _ _ _ _ c.in-Err.ensures.kept.0;
 }
 
 pub returns-then-is_err : goal.returns-then-is_err
@@ -43,9 +43,9 @@ returns-then-is_err g c =
       counted = refl;
       grows = le_refl _;
       no_failure = tt;
-      zone = c.next.ensures.zone;
       clock = c.push_line_by.ensures.zone;
-      keeps = c.next.ensures.keeps;
+      settings = c.next.ensures.settings;
+      queued = λ before. c.next.ensures.queued;
       steps = tt;
       fault_steps = λ gone. next.steps;
     }
@@ -60,9 +60,9 @@ returns-in-Ok g c =
       counted = tt;
       grows = c.write_text.ensures.grows;
       no_failure = c.in-Ok.ensures.no_failure;
-      zone = c.next.ensures.zone;
       clock = c.push_line_by.ensures.zone;
-      keeps = c.next.ensures.keeps;
+      settings = c.next.ensures.settings;
+      queued = λ before. c.next.ensures.queued;
       steps = next.steps;
       fault_steps = tt;
     }
@@ -78,9 +78,9 @@ returns-in-Err-write_text g c =
       counted = cut.once;
       grows = c.write_text.ensures.grows;
       no_failure = tt;
-      zone = c.next.ensures.zone;
       clock = c.push_line_by.ensures.zone;
-      keeps = c.next.ensures.keeps;
+      settings = c.next.ensures.settings;
+      queued = λ before. c.next.ensures.queued;
       steps = tt;
       fault_steps = next.steps;
     }

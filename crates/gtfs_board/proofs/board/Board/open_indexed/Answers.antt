@@ -1,48 +1,17 @@
-use Rattle.std.proofs.Common.{◌∙◌, sym, ap, subst, refl}
-use Rattle.std.specs.Prelude.{bytes_eq, option_map, position}
-use Rattle.std.proofs.lemmas.Bool.{true≢false}
-use Rattle.gtfs_days.specs.Zone.{zone_origin}
-use Rattle.gtfs_rows.specs.Views.{content_of_parts, stop_ids}
+use Rattle.std.proofs.Common.{◌≡◌, sym, subst}
+use Rattle.std.specs.Prelude.{All}
+use Rattle.gtfs_rows.specs.Views.{content_of_parts, stop_ids, text_of_number}
 use Rattle.gtfs_rows.specs.declared.parts.Parts.{Parts}
+use Rattle.gtfs_runs.specs.Lanes.{latest}
 use Rattle.gtfs_times.specs.Filling.{timed}
-use Rattle.gtfs_board.specs.Board.{keys_of}
-use Rattle.gtfs_rows.specs.Departures.{IsBoard}
-use Rattle.gtfs_board.specs.Lent.{plain_key}
-use Rattle.gtfs_board.specs.Opening.{HasSettings}
-use Rattle.gtfs_board.proofs.Opened.{stop_none, stop_some}
-use Rattle.gtfs_board.proofs.Results.{if_ok, never_unknown, not_bad}
+use Rattle.gtfs_times.specs.declared.times.Times.{Times}
+use Rattle.gtfs_board.specs.Shown.{IsShown}
 use Rattle.gtfs_board.proofs.board.Board.open_indexed.Goals as goal
 
-pub returns-in-Some-clause-unknown : goal.returns-in-Some-clause-unknown
-returns-in-Some-clause-unknown c =
-    let p = c.args.index.now.feed in
-    let known = stop_some p c.args.stop.now c.in-Some.number.0 (sym (c.stop.ensures ∙ ap (λ (q : Parts). position (bytes_eq c.args.stop.now) (stop_ids q)) c.feed.ensures) ∙ ap (option_map (λ n. n.0)) c.in-Some.is) in
-    (λ unknown. absurd (never_unknown c.over_indexed.result c.over_indexed.ensures.known unknown), λ none. absurd (true≢false (sym known.1.1 ∙ none)))
+pub of_lanes-requires-clause-greatest : goal.of_lanes-requires-clause-greatest
+of_lanes-requires-clause-greatest c =
+    subst (λ (r : Times × Parts). c.in_ok-lanes.lanes.greatest ≡ latest (timed r.0 (content_of_parts r.1)) (text_of_number (stop_ids r.1) c.in_ok-number.number.0))
+    (λ i. (sym c.times-times.ensures i, sym c.feed-feed.ensures i)) c.in_ok-lanes.ensures.greatest
 
-pub returns-in-Some-clause-bad : goal.returns-in-Some-clause-bad
-returns-in-Some-clause-bad c =
-    let p = c.args.index.now.feed in
-    let known = stop_some p c.args.stop.now c.in-Some.number.0 (sym (c.stop.ensures ∙ ap (λ (q : Parts). position (bytes_eq c.args.stop.now) (stop_ids q)) c.feed.ensures) ∙ ap (option_map (λ n. n.0)) c.in-Some.is) in
-    (λ bad. (known.1.1, c.over_indexed.ensures.bad.0 bad), λ both. c.over_indexed.ensures.bad.1 both.1)
-
-pub returns-in-Some-clause-board : goal.returns-in-Some-clause-board
-returns-in-Some-clause-board c =
-    let p = c.args.index.now.feed in
-    let known = stop_some p c.args.stop.now c.in-Some.number.0 (sym (c.stop.ensures ∙ ap (λ (q : Parts). position (bytes_eq c.args.stop.now) (stop_ids q)) c.feed.ensures) ∙ ap (option_map (λ n. n.0)) c.in-Some.is) in
-    if_ok c.over_indexed.result _ _ c.over_indexed.ensures.opened (λ b h. subst (λ s. IsBoard (timed c.args.index.now.times (content_of_parts p)) (zone_origin c.args.zone.now) s c.args.span.from c.args.span.until (option_map (λ k. plain_key k.now) c.args.after) (keys_of b.rest)) known.1.0 h.board)
-
-pub returns-in-Some-clause-settings : goal.returns-in-Some-clause-settings
-returns-in-Some-clause-settings c =
-    let p = c.args.index.now.feed in
-    let known = stop_some p c.args.stop.now c.in-Some.number.0 (sym (c.stop.ensures ∙ ap (λ (q : Parts). position (bytes_eq c.args.stop.now) (stop_ids q)) c.feed.ensures) ∙ ap (option_map (λ n. n.0)) c.in-Some.is) in
-    if_ok c.over_indexed.result _ _ c.over_indexed.ensures.opened (λ b h. subst (λ s. HasSettings (timed c.args.index.now.times (content_of_parts p)) c.args.zone.now s c.args.span (option_map (λ k. plain_key k.now) c.args.after) b) known.1.0 h.settings)
-
-pub returns-in-None-clause-unknown : goal.returns-in-None-clause-unknown
-returns-in-None-clause-unknown c =
-    let none = stop_none c.args.index.now.feed c.args.stop.now (sym (c.stop.ensures ∙ ap (λ (q : Parts). position (bytes_eq c.args.stop.now) (stop_ids q)) c.feed.ensures) ∙ ap (option_map (λ n. n.0)) c.in-None.is) in
-    (λ _. none, λ _. refl)
-
-pub returns-in-None-clause-bad : goal.returns-in-None-clause-bad
-returns-in-None-clause-bad c =
-    let none = stop_none c.args.index.now.feed c.args.stop.now (sym (c.stop.ensures ∙ ap (λ (q : Parts). position (bytes_eq c.args.stop.now) (stop_ids q)) c.feed.ensures) ∙ ap (option_map (λ n. n.0)) c.in-None.is) in
-    (λ bad. absurd (not_bad _ refl bad), λ both. absurd (true≢false (sym both.0 ∙ none)))
+pub returns-clause-shown : goal.returns-clause-shown
+returns-clause-shown c = subst (λ (p : Parts). All (IsShown (content_of_parts p)) c.in_ok-board.board.rest) c.feed-feed.ensures c.in_ok-board.ensures.shown
