@@ -1,4 +1,4 @@
-use Rattle.std.proofs.Common.{get_or, refl}
+use Rattle.std.proofs.Common.{get_or}
 use Rattle.std.proofs.lemmas.List.{get_or_default}
 use Rattle.gtfs_runs.specs.declared.stop_lanes.listed.Ranked.{Ranked}
 use Rattle.gtfs_runs.proofs.Chunks.{no_event}
