@@ -196,13 +196,6 @@ pub record AreWaitingTo (services : List ServiceRow) (used : List Bool) (served 
   pub each : All (λ w. IsPart (runs_on services w.0.1) served) waiting
   pub all : (n : ℕ) (d : ℤ) → n < count → get_or used n false ≡ true → runs_on services n d ≡ true → list_any (waits_for services d) waiting ≡ true
 
-pub all_waiting : (services : List ServiceRow) (used : List Bool) (served : ℤ → Bool) (count : ℕ) (waiting : List Wait) → length services ≤ count
-    → IsServedBy services used served → AreWaitingTo services used served count waiting → AreWaiting services served first_service_day waiting
-all_waiting services used served count waiting whole by are = record {
-  each = are.each;
-  all = λ d runs _. let one = by.some d runs in are.all one.0 d (let within = has_row services one.0 d one.2 in omega (arith, within, whole)) one.1 one.2;
-}
-
 pub unused_waits : (services : List ServiceRow) (used : List Bool) (served : ℤ → Bool) (n : ℕ) (waiting : List Wait) → get_or used n false ≡ false
     → AreWaitingTo services used served n waiting → AreWaitingTo services used served (n + 1) waiting
 unused_waits services used served n waiting unused are = record {

@@ -27,11 +27,6 @@ listed_push (y ∷ ys) x p =
     ap (λ b. is_same (problem_of y) p || b) (listed_push ys x p)
     ∙ sym (or_assoc (is_same (problem_of y) p) (lists_problem (map problem_of ys) p) (is_same (problem_of x) p && true))
 
-pub listed_no_more : (a b : Bool) → a ≡ (a || (b && false))
-listed_no_more true b = refl
-listed_no_more false true = refl
-listed_no_more false false = refl
-
 -- ---- each problem once, in order
 
 module _ {X K : Type 0} (f : X → K) (R : K → K → Ordering) where

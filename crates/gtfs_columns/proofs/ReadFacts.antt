@@ -1,5 +1,5 @@
 -- Reading a value of a dataset that passes never fails.
-use Rattle.std.proofs.Common.{◌≡◌, ℕ, List, [], ◌∷◌, true, false, Bool, Option, Some, None, codes, refl, sym, ap, ◌∙◌, inl, inr, arith}
+use Rattle.std.proofs.Common.{◌≡◌, ℕ, List, [], ◌∷◌, true, false, Bool, Option, Some, None, refl, sym, ap, ◌∙◌, inl, inr, arith}
 use Rattle.std.specs.Prelude.{◌&&◌, ◌||◌, bytes_eq, not, if◌then◌else◌, nat_lt, nat_le, length, find, is_some, option_and_then, option_map, ℤ, Result, Ok, Err}
 use Rattle.std.specs.List.{list_all, list_any}
 use Rattle.std.specs.Result.{result_ok}
@@ -16,7 +16,7 @@ use Rattle.gtfs_columns.specs.declared.code.Code.{Code}
 use Rattle.gtfs_columns.specs.declared.code.Code.TheVariants as code
 use Rattle.gtfs_columns.specs.Codes.{is_error}
 use Rattle.gtfs_columns.specs.ColumnRules.{is_required}
-use Rattle.gtfs_columns.specs.Columns.{Kind, id, text, count, choice, time, date, colour, coordinate, Empty, refused, nothing, means, Column, column_named, columns_of, required, defaulting, up_to}
+use Rattle.gtfs_columns.specs.Columns.{Kind, id, text, count, choice, time, date, colour, coordinate, Empty, refused, nothing, means, Column, column_named, columns_of, required}
 use Rattle.gtfs_columns.specs.FieldRules.{is_id, is_text, is_form_fault, is_range_fault}
 use Rattle.gtfs_columns.specs.Problems.{Passes, holds_in, kept}
 use Rattle.gtfs_columns.specs.ReadRules.{IsReadAs, IsReadUnder, StandsAs, StandsUnder, may_lack}
@@ -137,15 +137,6 @@ stands d passes x n row name c there t is = record {
   kind_is = refl;
   empty_is = refl;
 }
-
--- as under these
-start_times : (d : Dataset) → Passes d → (n : ℕ) → is_row (records_in d file.Frequencies) n ≡ true
-    → StandsAs time refused (text_in d file.Frequencies n (codes "start_time"))
-start_times d passes n row = stands d passes file.Frequencies n row (codes "start_time") (required "start_time" time) refl _ refl
-
-transfer_types : (d : Dataset) → Passes d → (n : ℕ) → is_row (records_in d file.Transfers) n ≡ true
-    → StandsAs (up_to 5) (means (codes "0")) (text_in d file.Transfers n (codes "transfer_type"))
-transfer_types d passes n row = stands d passes file.Transfers n row (codes "transfer_type") (defaulting "transfer_type" (up_to 5) "0") refl _ refl
 
 pub read_under : (c : Column) (t : List ℕ) → StandsUnder c t → IsReadUnder c t
 read_under c t s = rw (← s.text) at (passes_read s.dataset s.passes s.file s.row s.name c s.is_row s.kept)

@@ -51,9 +51,6 @@ timetable_built = below timetable_app
 abbrev merge_built : Shape
 merge_built = below merge_app
 
-are_six : (built gtfs_app).subs ≡ check_built ∷ board_built ∷ boards_built ∷ serve_built ∷ timetable_built ∷ merge_built ∷ []
-are_six = refl
-
 -- where nothing required is wanting, the id of `check` has a text
 has_check : (rows : List Row) → are_filled rows ≡ true → (take.is_given (codes "DIR") rows && true) ≡ true → HasCheck rows
 has_check rows filled all = given_text (codes "DIR") rows filled (and_parts (take.is_given (codes "DIR") rows) true all).0

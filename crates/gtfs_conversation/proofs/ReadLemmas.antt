@@ -1,12 +1,12 @@
 -- The bytes of a line, one by one, and the line that is heard of them.
-use Rattle.std.proofs.Common.{ℕ, zero, suc, ◌+◌, ◌-◌, ◌≡◌, ◌==◌, ◌<◌, ◌≤◌, ◌⊎◌, ◌||◌, inl, inr, not, Bool, true, false, List, [], ◌∷◌, ◌++◌, length, map, take, if◌then◌else◌, Option, Some, None, IfSome, Result, Ok, Err, refl, ap, sym, subst, ◌∙◌, append_assoc, arith}
-use Rattle.std.specs.Prelude.{IfOk, option_map, slice_index}
+use Rattle.std.proofs.Common.{ℕ, zero, suc, ◌+◌, ◌-◌, ◌≡◌, ◌==◌, ◌<◌, ◌≤◌, ◌⊎◌, ◌||◌, inl, inr, not, Bool, true, false, List, [], ◌∷◌, ◌++◌, length, map, take, if◌then◌else◌, Option, Some, None, IfSome, refl, ap, sym, subst, ◌∙◌, append_assoc, arith}
+use Rattle.std.specs.Prelude.{option_map, slice_index}
 use Rattle.std.specs.List.{slice_split}
 use Rattle.std.specs.Str.Lines.{lines, lines_of_parts, strip_carriage_return}
 use Rattle.std.proofs.lemmas.Bool.Decides.{nat_tests}
 use Rattle.std.proofs.lemmas.Grind.{common_steps}
-use Rattle.std.proofs.lemmas.List.{append-nil, length-take, take-take, take_all}
-use Rattle.std.proofs.lemmas.List.Elements.{All-nil, All-push}
+use Rattle.std.proofs.lemmas.List.{length-take, take-take, take_all}
+use Rattle.std.proofs.lemmas.List.Elements.{All-push}
 use Rattle.std.proofs.lemmas.List.Splits.{length-slice_split, slice_split_at, slice_split_none}
 use Rattle.gtfs_conversation.specs.Conversation.{Hears}
 use Rattle.gtfs_conversation.specs.Lines.{heard_lines, longest_line}
@@ -92,17 +92,6 @@ kept_more (suc n) (y ∷ ys) x = ap (λ l. y ∷ l) (kept_more n ys x)
 pub is_short : (n : ℕ) (xs line : List ℕ) → line ≡ take n xs → length line ≤ n
 is_short n xs line is = subst (λ l. length l ≤ n) (sym is) (omega (arith, length-take n xs))
 
-pub reads_none : (most : ℕ) (first : Option (List ℕ)) (line : List ℕ) → line ≡ [] → ReadsIf most first line first
-reads_none most None line is = tt
-reads_none most (Some bytes) line is = record {
-  seen = [];
-  rest = bytes;
-  split = refl;
-  no_feed = All-nil (λ b. (b == 10) ≡ false);
-  kept = is ∙ grind (arith, common_steps);
-  waits = refl;
-}
-
 pub reads_more : (most : ℕ) (first : Option (List ℕ)) (line line_now : List ℕ) (left left_now : Option (List ℕ)) (byte : Option ℕ) (x : ℕ)
     → ReadsIf most first line left → Gives left byte left_now → byte ≡ Some x → (x ≡ 10 → ⊥) → line_now ≡ take most (line ++ x ∷ [])
     → ReadsIf most first line_now left_now
@@ -117,32 +106,6 @@ reads_more most (Some bytes) line line_now left left_now byte x r shown same oth
       no_feed = All-push (λ b. (b == 10) ≡ false) r.seen x r.no_feed is;
       kept = keeps ∙ (ap (λ l. take most (l ++ x ∷ [])) r.kept ∙ kept_more most r.seen x);
       waits = next.2;
-    }
-
--- LF was read
-pub reads_feed : (most : ℕ) (first : Option (List ℕ)) (line : List ℕ) (left left_now : Option (List ℕ)) (byte : Option ℕ)
-    → ReadsIf most first line left → Gives left byte left_now → byte ≡ Some 10 → IfSome first (λ bytes. ReadsRaw most true bytes line left_now)
-reads_feed most None line left left_now byte r shown same = tt
-reads_feed most (Some bytes) line left left_now byte r shown same =
-    let next : GivesByte r.rest (Some 10) left_now = gives left r.rest byte (Some 10) left_now r.waits same shown in
-    record {
-      raw = r.seen;
-      no_feed = r.no_feed;
-      beginning = r.kept;
-      end = (next.0, r.split ∙ ap (λ l. r.seen ++ l) next.1, next.2);
-    }
-
--- nothing was left
-pub reads_end : (most : ℕ) (first : Option (List ℕ)) (line : List ℕ) (left left_now : Option (List ℕ)) (byte : Option ℕ)
-    → ReadsIf most first line left → Gives left byte left_now → byte ≡ None → IfSome first (λ bytes. ReadsRaw most false bytes line left_now)
-reads_end most None line left left_now byte r shown same = tt
-reads_end most (Some bytes) line left left_now byte r shown same =
-    let next : GivesByte r.rest None left_now = gives left r.rest byte None left_now r.waits same shown in
-    record {
-      raw = r.seen;
-      no_feed = r.no_feed;
-      beginning = r.kept;
-      end = (r.split ∙ (ap (λ l. r.seen ++ l) next.0 ∙ append-nil r.seen), next.1);
     }
 
 -- ---- a line, where one of more than this many bytes is heard by its beginning
@@ -213,11 +176,3 @@ pub heard_line : (first left : Option (List ℕ)) (fed more : Bool) (kept line :
     → more ≡ (fed || not (length kept == 0)) → line ≡ heard_of longest_line fed kept
     → IfSome first (λ bytes. Hears more (heard_lines bytes) line (option_map heard_lines left))
 heard_line first left fed more kept line r whether heard = heard_within_line longest_line (longest_line + 2) first left fed more kept line (omega arith) r whether heard
-
--- the same in the words of an input
-pub heard_answer : {E : Type 0} (heard : Result Bool E) (first left : Option (List ℕ)) (line : List ℕ)
-    → IfOk heard (λ more. IfSome first (λ bytes. Hears more (heard_lines bytes) line (option_map heard_lines left)))
-    → IfOk heard (λ more. IfSome (option_map heard_lines first) (λ ls. Hears more ls line (option_map heard_lines left)))
-heard_answer (Err e) first left line p = tt
-heard_answer (Ok more) None left line p = tt
-heard_answer (Ok more) (Some bytes) left line p = p

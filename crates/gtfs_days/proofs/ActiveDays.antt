@@ -3,7 +3,7 @@ use Rattle.std.proofs.Common.{◌≡◌, ◌≢◌, ℕ, zero, suc, ◌+◌, ◌
 use Rattle.std.specs.List.{All, list_any}
 use Rattle.std.specs.List.Sorted.{IsPartitionedBy, IsPartitionPoint}
 use Rattle.std.specs.Option.{option_map_or}
-use Rattle.std.proofs.lemmas.Bool.{and_left, and_right, and_parts, both_ways, cases_Bool, cases_lt, false≢true}
+use Rattle.std.proofs.lemmas.Bool.{and_left, and_right, cases_Bool, cases_lt, false≢true}
 use Rattle.std.proofs.lemmas.Int.{ints}
 use Rattle.std.proofs.lemmas.List.{drop_more, drop_all, get_or-drop, length-drop}
 use Rattle.std.proofs.Math.Bool.{and-true, or-false, or-true}
@@ -25,10 +25,6 @@ before_service d h = grind (arith, ints)
 -- days after one that is past the last service day
 past_service : (d e : ℤ) → first_service_day ≤ℤ d → is_service_day d ≡ false → d ≤ℤ e → is_service_day e ≡ false
 past_service d e low isnt h = grind (arith, ints)
-
--- a service is active on service days alone
-pub service_day-from_active : (s : ServiceDates) (d : ℤ) → is_active s d ≡ true → is_service_day d ≡ true
-service_day-from_active s d h = (and_parts _ _ h).0
 
 -- a day without exceptions is active if it is regular
 regular_day : (week : Option Week) (es : List Row) (e : ℤ) → All (λ x. x.0 ≢ e) es → is_active (dates week es) e ≡ is_regular week e
@@ -96,19 +92,6 @@ later_start p low d (Some f) before found late = record {
   not_before = int_lt-false f d late;
   least = λ e h l. found.least e (omega (arith, signed_arith)) l;
 }
-
--- there is one such day at most
-pub first_unique : (p : ℤ → Bool) (from : ℤ) (a b : Option ℤ) → IsFirstIfAny p from a → IsFirstIfAny p from b → a ≡ b
-first_unique p from None None f g = refl
-first_unique p from None (Some b) f g = absurd (both_ways (p b) (f b g.not_before) g.passes)
-first_unique p from (Some a) None f g = absurd (both_ways (p a) (g a f.not_before) f.passes)
-first_unique p from (Some a) (Some b) f g = elim (cases_int a b) [
-  | inl less ↦ absurd (both_ways (p a) (g.least a f.not_before less) f.passes)
-  | inr more ↦ elim (cases_int b a) [
-    | inl less ↦ absurd (both_ways (p b) (f.least b g.not_before less) g.passes)
-    | inr same ↦ let equal : a ≡ b = omega (arith, signed_arith) in ap (λ (x : ℤ). Some x) equal
-  ]
-]
 
 -- ---- the first active day from `low` on, by the first exception x
 

@@ -4,7 +4,7 @@ use Rattle.std.specs.FinMap as fin
 use Rattle.std.specs.Ordering.{eq_by_cmp}
 use Rattle.std.proofs.lemmas.Cmp.{eq_by_cmp_equiv}
 use Rattle.gtfs_field.proofs.OrderingFacts.{equal}
-use Rattle.gtfs_devices.specs.Folder.{Store, files_of, file_in, put, put_folder}
+use Rattle.gtfs_devices.specs.Folder.{Store, files_of, file_in, put}
 use Rattle.gtfs_field.proofs.TextOrderFacts.{texts_total, texts_exact}
 use Rattle.gtfs_field.specs.TextOrder.{text_cmp}
 
@@ -43,11 +43,3 @@ module _ (store : Store) (dir name bytes : List ℕ) where
   -- another folder is as it was
   pub get-put-other_folder : (q : List ℕ) → q ≢ dir → fin.get (put store dir name bytes) q ≡ fin.get store q
   get-put-other_folder q n = get-insert-other store dir (fin.insert (files_of store dir) name bytes) q n
-
--- a folder that was put is there, with the files that it had
-pub get-put_folder : (store : Store) (dir : List ℕ) → fin.get (put_folder store dir) dir ≡ Some (files_of store dir)
-get-put_folder store dir = get-insert-same store dir (files_of store dir)
-
--- another folder is as it was
-pub get-put_folder-other : (store : Store) (dir q : List ℕ) → q ≢ dir → fin.get (put_folder store dir) q ≡ fin.get store q
-get-put_folder-other store dir q n = get-insert-other store dir (files_of store dir) q n

@@ -3,7 +3,7 @@ use Rattle.std.proofs.Common.{◌≡◌, Bool, true, false, Some, None, Result, 
 use Rattle.std.specs.Result.{result_ok}
 use Rattle.gtfs_field.specs.Kinds.{shaped, within}
 use Rattle.gtfs_field.specs.declared.fault.FieldFault.{FieldFault}
-use Rattle.gtfs_field.specs.declared.fault.FieldFault.TheVariants.{Form, Range}
+use Rattle.gtfs_field.specs.declared.fault.FieldFault.TheVariants.{Form}
 
 pub test-some : {V : Type 0} (b : Bool) (x y : V) → Some x ≡ (if b then Some y else None) → (b ≡ true) × (x ≡ y)
 test-some true x y h = (refl, cc)
@@ -21,9 +21,6 @@ shaped-false b r h = rw h refl
 
 pub within-true : {V : Type 0} (b : Bool) (v : V) → b ≡ true → within b v ≡ Ok v
 within-true b v h = rw h refl
-
-pub within-false : {V : Type 0} (b : Bool) (v : V) → b ≡ false → within b v ≡ Err Range
-within-false b v h = rw h refl
 
 pub some-test : {V : Type 0} (b : Bool) (x y : V) → b ≡ true → x ≡ y → Some x ≡ (if b then Some y else None)
 some-test b x y passes same = rw (passes, same) refl

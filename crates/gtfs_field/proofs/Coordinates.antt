@@ -154,10 +154,6 @@ magnitude_at-around t whole fraction before after = elim (cases_Bool (are_digits
   | inr other ↦ rw (before, after, shape-around t, other) refl
 ]
 
--- degrees and billionths that stop at `most`
-pub min-sum : (most degrees billions : ℕ) → min (min (min degrees most * 10 ^ 9) most + billions) most ≡ min (degrees * 10 ^ 9 + billions) most
-min-sum most degrees billions = omega arith
-
 -- a sign is one byte, and a character may begin after it
 pub boundary-sign : (t : List ℕ) → IsUtf8 t → is_sign (get_or t 0 0) ≡ true → IsCharBoundary t 1
 boundary-sign [] text sign = cc

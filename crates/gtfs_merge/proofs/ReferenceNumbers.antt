@@ -40,9 +40,6 @@ module _ (merged : List (List ℕ)) (rename : Renaming) (olds : List (List ℕ))
 numbers-long : (texts olds : List (List ℕ)) (numbers : List (Option ℕ)) → AreNumbersOf texts olds numbers → length numbers ≡ length olds
 numbers-long texts olds numbers are = sym (length-map numbers (option_and_then (slice_get texts))) ∙ ap length are ∙ length-map olds Some
 
-pub headsigns-length : (texts olds : List (List ℕ)) (numbers : List (Option ℕ)) → AreNumbersOf texts olds numbers → length numbers ≡ length olds
-headsigns-length = numbers-long
-
 -- a headsign's new number is that of its text
 told-at : (texts olds : List (List ℕ)) (numbers : List (Option ℕ)) → AreNumbersOf texts olds numbers → (n : ℕ) → n < length olds → option_and_then (slice_get texts) (get_or numbers n None) ≡ Some (text_of_number olds n)
 told-at texts [] numbers are n within = absurd (omega arith)

@@ -2,7 +2,7 @@
 use Rattle.std.proofs.Common.{◌≡◌, ◌≤◌, Bool, true, false, sym, arith, nat_le, true≢false}
 use Rattle.std.specs.Prelude.{◌&&◌}
 use Rattle.std.proofs.lemmas.Bool.{and_parts, leb-true, le-leb}
-use Rattle.gtfs_nearby.specs.Areas.{area_joined, area_of, covers, has, meets}
+use Rattle.gtfs_nearby.specs.Areas.{area_joined, area_of, covers, has}
 use Rattle.gtfs_nearby.specs.declared.area.Area.{Area}
 use Rattle.gtfs_nearby.specs.declared.place.Place.{Place}
 
@@ -26,12 +26,6 @@ both-so false b e f = absurd (true≢false (sym e))
 
 has-inside : (a : Area) (p : Place) → IsInside a p → has a p ≡ true
 has-inside a p i = both-so _ _ (both-so _ _ (both-so _ _ (le-leb _ _ i.south) (le-leb _ _ i.north)) (le-leb _ _ i.west)) (le-leb _ _ i.east)
-
-pub missed : (a b : Area) (p : Place) → has a p ≡ true → has b p ≡ true → meets a b ≡ true
-missed a b p e f =
-    let i = inside a p e in
-    let j = inside b p f in
-    both-so _ _ (both-so _ _ (both-so _ _ (le-leb a.south b.north (omega (arith, i.south, j.north))) (le-leb b.south a.north (omega (arith, i.north, j.south)))) (le-leb a.west b.east (omega (arith, i.west, j.east)))) (le-leb b.west a.east (omega (arith, i.east, j.west)))
 
 pub covered : (a b : Area) (p : Place) → covers a b ≡ true → has b p ≡ true → has a p ≡ true
 covered a b p e f =

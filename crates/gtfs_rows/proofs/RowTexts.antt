@@ -15,7 +15,7 @@ use Rattle.gtfs_columns.specs.Columns.{Column, columns_of, column_named}
 use Rattle.gtfs_columns.specs.Rows.{text_in, value_in}
 use Rattle.gtfs_columns.specs.Values.{readable}
 use Rattle.gtfs_columns.proofs.SiteFacts.{text_is}
-use Rattle.gtfs_rows.specs.Cells.{Cell, is_cell, are_cells, takes_none, cell_text, record_text}
+use Rattle.gtfs_rows.specs.Cells.{Cell, is_cell, are_cells, cell_text, record_text}
 use Rattle.gtfs_rows.specs.Named.{cell_named, text_named}
 use Rattle.gtfs_rows.specs.Written.{records_of_cells, dataset_of_cells}
 use Rattle.gtfs_rows.proofs.CellTexts.{writes_value, readable_value}
@@ -30,11 +30,6 @@ cell-cut c (Some v) h = (writes_value c.kind v h).cut
 pub cell-read : (c : Column) (v : Cell) → is_cell c v ≡ true → readable c.kind (cell_text c.kind v) ≡ v
 cell-read c None h = refl
 cell-read c (Some v) h = readable_value c.kind v h
-
--- a column that takes no empty value has a text
-pub cell-filled : (c : Column) (v : Cell) → is_cell c v ≡ true → takes_none c.empty ≡ false → is_empty (cell_text c.kind v) ≡ false
-cell-filled c None h never = cc
-cell-filled c (Some v) h never = (writes_value c.kind v h).filled
 
 -- ---- the position of a column
 
@@ -62,10 +57,6 @@ next_field f fs (Some n) = refl
 -- each name is its own cut
 abbrev are_cut : List Column → Bool
 are_cut cs = list_all (λ c. bytes_eq (cut c.name) c.name) cs
-
-no_fields : (name : List ℕ) (cs : List Column) (o : Option ℕ) → field_under [] o ≡ []
-no_fields name cs None = refl
-no_fields name cs (Some n) = cut-visible [] refl
 
 pub named-text : (name : List ℕ) (cs : List Column) (vs : List Cell) → are_cut cs ≡ true → are_cells cs vs ≡ true
     → field_under (record_text cs vs) (position (is_name name) (map (λ c. c.name) cs)) ≡ text_named cs vs name

@@ -6,7 +6,7 @@ use Rattle.std.proofs.lemmas.List.{take_more}
 use Rattle.std.proofs.lemmas.List.Elements.{All-push}
 use Rattle.gtfs_devices.specs.Device.{counted, counted_times, calls_after, Calls, MakesCalls, MakesSomeCalls, Rises}
 use Rattle.gtfs_table.specs.Files.{file_name}
-use Rattle.gtfs_devices.specs.Folder.{file_in, Files, Store, Finds, Lists, RefusesNames, RefusesRead}
+use Rattle.gtfs_devices.specs.Folder.{file_in, Files, Store, Finds, Lists, RefusesRead}
 use Rattle.gtfs_table.specs.Reading.{AllHoldWithin, HoldsTable, HoldsDataset, HoldsWithin, RefusesDataset, SetsTables, dataset_of, is_kept, kept_files, table_in, tables_set}
 use Rattle.gtfs_table.specs.Tables.{Dataset, Table, absent, empty_dataset, table_of_bytes, with_table}
 use Rattle.gtfs_table.specs.declared.file.File.{File}
@@ -76,22 +76,10 @@ refused-read OutOfMemory limit told dir x n m k h r = tt
 refused-read NoFolder limit told dir x n m k h r = r
 refused-read Write limit told dir x n m k h r = absurd r
 
-pub refused-names : (fault : FolderFault) (limit : ℕ) (told : Option Store) (dir : List ℕ) (n k : ℕ) → RefusesNames fault told dir n k → RefusesDataset fault limit told dir n k
-refused-names Read limit told dir n k r = r
-refused-names TooLarge limit told dir n k r = absurd r
-refused-names OutOfMemory limit told dir n k r = tt
-refused-names NoFolder limit told dir n k r = r
-refused-names Write limit told dir n k r = absurd r
-
 -- ---- the limit
 
 found-within : (limit : ℕ) (found : Option (Option (List ℕ))) (read : List ℕ) → found ≡ Some (Some read) → length read ≤ limit → (bytes : List ℕ) → found ≡ Some (Some bytes) → length bytes ≤ limit
 found-within limit found read e short bytes f = let same : read ≡ bytes = cc (e, f) in rw (← same) short
-
--- a file that was found is as long as what was read
-pub within-read : (limit : ℕ) (told : Option Store) (dir : List ℕ) (x : File) (read : List ℕ) → Finds told dir (file_name x) (Some read) → length read ≤ limit → HoldsWithin limit told dir x
-within-read limit None dir x read found short = tt
-within-read limit (Some store) dir x read found short = found-within limit (file_in store dir (file_name x)) read found short
 
 none-within : (limit : ℕ) (found : Option (Option (List ℕ))) → found ≡ Some None → (bytes : List ℕ) → found ≡ Some (Some bytes) → length bytes ≤ limit
 none-within limit found e bytes f = absurd (cc (e, f))

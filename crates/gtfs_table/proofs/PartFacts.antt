@@ -106,12 +106,3 @@ pub part-of : {X : Type 0} (starts : List ℕ) (xs : List X) (rs : List (List X)
 part-of starts xs rs i e h =
     let lt : i < length starts = omega (arith, count-parts starts xs rs e) in
     sym (part-at starts xs i lt) ∙ ap (λ (p : List (List _)). get_or p i []) e
-
--- the part of a row, from 1
-pub row-part : {X : Type 0} (starts : List ℕ) (xs : List X) (rs : List (List X)) (row : ℕ) → parts starts xs ≡ rs → Rising 0 starts (length xs) → 0 < row → row ≤ length starts
-    → (get_or starts (row - 1) 0 ≤ get_or starts (row - 1 + 1) (length xs)) × (get_or starts (row - 1 + 1) (length xs) ≤ length xs)
-    × (take (get_or starts (row - 1 + 1) (length xs) - get_or starts (row - 1) 0) (drop (get_or starts (row - 1) 0) xs) ≡ get_or rs (row - 1) [])
-row-part starts xs rs row e r low high =
-    let there : row - 1 < length rs = omega (arith, count-parts starts xs rs e) in
-    let b = bounds-of starts xs rs (row - 1) e r there in
-    (b.1, b.2, part-of starts xs rs (row - 1) e there)

@@ -41,9 +41,6 @@ module _ (rs : Records) (passed : ℕ) (after_header : 0 < passed) where
       let blank : is_row rs (passed + 1) ≡ false = row_test below ∙ ap has_value (sym is) ∙ none in
       rw (range_next passed (length rs) below, blank) refl
 
-pub rows_end : (rs : Records) (passed : ℕ) → length rs ≤ passed → rows_past rs passed ≡ []
-rows_end rs passed past = let none : length rs - passed ≡ 0 = omega arith in rw none refl
-
 -- ---- a loop over the rows of a file: what it took, and what is left
 
 -- a step of the iterator

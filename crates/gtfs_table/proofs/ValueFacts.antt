@@ -3,19 +3,10 @@ use Rattle.std.proofs.Common.{◌≡◌, ◌<◌, ◌+◌, ◌-◌, ◌==◌, �
 use Rattle.std.specs.Prelude.{position, bytes_eq}
 use Rattle.std.specs.List.{list_any, position_from}
 use Rattle.std.proofs.lemmas.Bool.{cases_Bool, ne_eqb}
-use Rattle.std.proofs.lemmas.List.{get_or_past}
 use Rattle.std.proofs.lemmas.Iterator.Adapters.{position_from-zero}
 use Rattle.gtfs_table.specs.Blanks.{cut}
 use Rattle.gtfs_table.proofs.BlankFacts.{none-cut}
 use Rattle.gtfs_table.specs.Tables.{Records, record_at, field_cut, column_of}
-
--- a row that is not there
-pub no-record : (rs : Records) (row : ℕ) → (row ≡ 0) ⊎ (length rs < row) → [] ≡ record_at rs row
-no-record rs row (inl e) = rw e refl
-no-record rs row (inr h) =
-    let some : (row == 0) ≡ false = ne_eqb row 0 (λ z. omega arith) in
-    let none : get_or rs (row - 1) [] ≡ [] = get_or_past rs (row - 1) [] (omega arith) in
-    rw (some, none) refl
 
 -- a row that is there
 pub record-there : (rs : Records) (row : ℕ) → 0 < row → record_at rs row ≡ get_or rs (row - 1) []

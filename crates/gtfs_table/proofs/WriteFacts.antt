@@ -32,9 +32,6 @@ unfolding escaped
 escaped-flexible [] = refl
 escaped-flexible (b ∷ rest) = rw (escaped-flexible rest) refl
 
-field-flexible : (field : List ℕ) → field_text flexible field ≡ field_text default_writer field
-field-flexible field = rw (escaped-flexible field) refl
-
 fields-flexible : (fields : List (List ℕ)) → fields_text flexible fields ≡ fields_text default_writer fields
 unfolding fields_text
 fields-flexible [] = refl

@@ -1,5 +1,5 @@
 -- What the filled stop time of a position is.
-use Rattle.std.proofs.Common.{◌≡◌, ◌∙◌, ◌+◌, ◌-◌, ◌*◌, ◌/◌, ◌<◌, ℕ, true, false, List, [], ◌∷◌, ◌++◌, map, length, get_or, take, Option, Some, None, refl, sym, ap, arith, inl, inr}
+use Rattle.std.proofs.Common.{◌≡◌, ◌∙◌, ◌+◌, ◌-◌, ◌*◌, ◌/◌, ◌<◌, ℕ, false, List, [], ◌∷◌, ◌++◌, map, length, get_or, take, Option, Some, None, refl, sym, ap, arith, inl, inr}
 use Rattle.std.specs.Prelude.{◌&&◌, ◌||◌, ◌⊎◌, is_some, unwrap_or}
 use Rattle.std.specs.List.{enumerate_from, list_any}
 use Rattle.std.specs.Option.{option_or}
@@ -94,9 +94,6 @@ module _ (rs : List StopRow) (k : ℕ) (within : k < length rs) where
       let none = no-time r.arrival_time r.departure_time untimed in
       let stays : filled_stop_time rs (k, r) ≡ r = rw untimed (λ z. record r { arrival_time = (time ∙ none.0) z; departure_time = (time ∙ none.1) z }) in
       sym stays
-
-pub timed-value : (rs : List StopRow) (k : ℕ) (d : StopRow) → is_some (left_at (get_or rs k d)) ≡ true → get_or rs k d ≡ filled_stop_time rs (k, get_or rs k d)
-timed-value rs k d timed = rw timed refl
 
 -- ---- lists
 

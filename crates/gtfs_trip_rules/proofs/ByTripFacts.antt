@@ -2,7 +2,7 @@
 use Rattle.std.proofs.Common.{◌≡◌, ◌<◌, ◌≤◌, ◌+◌, ◌-◌, ◌++◌, ◌∷◌, ◌∙◌, [], ℕ, suc, List, length, map, take, drop, get_or, Some, refl, sym, ap, subst, arith}
 use Rattle.std.specs.Prelude.{flat_map, slice_get}
 use Rattle.std.specs.List.{All, range_with_len}
-use Rattle.std.proofs.lemmas.List.Elements.{All-drop, All-push, All-take}
+use Rattle.std.proofs.lemmas.List.Elements.{All-push}
 use Rattle.std.proofs.lemmas.Option.{get_or_from_slice_get, slice_get_within}
 use Rattle.std.proofs.lemmas.List.{ext_get_or, get_or-drop, get_or-map, take_more, get_or-take, length-drop, length-map, length-take-le, map_push}
 use Rattle.std.proofs.lemmas.List.FromFn.{get_or-range_with_len, length-range_with_len}
@@ -13,7 +13,6 @@ use Rattle.gtfs_stop_times.specs.declared.stop_row.StopRow.{StopRow}
 use Rattle.gtfs_stop_times.proofs.Turns.{parts-joined, parts-map, starts-parts}
 use Rattle.gtfs_field.proofs.ListFacts.{range-push}
 use Rattle.gtfs_table.specs.Parts.{parts, starts_of}
-use Rattle.gtfs_table.proofs.PartFacts.{length-parts, part-at}
 use Rattle.gtfs_trip_rules.specs.Headsigns.{numbers_in, rows_at}
 use Rattle.gtfs_trip_rules.specs.KeptLists.{no_row}
 
@@ -65,13 +64,6 @@ module _ (rows : List StopRow) (order starts : List ℕ) (ranges : List RowRange
   ranges-starts = ap (starts_of 0) parts-are ∙ starts-parts 0 0 starts seen rising begins
 
 -- ---- one more range
-
--- the numbers of a part are some of all
-pub part-below : (size : ℕ) (starts order : List ℕ) (k : ℕ) (part : List ℕ) → slice_get (parts starts order) k ≡ Some part → All (λ n. n < size) order → All (λ n. n < size) part
-part-below size starts order k part at all =
-    let within : k < length starts = omega (arith, slice_get_within (parts starts order) k part at, length-parts starts order) in
-    let is = sym (part-at starts order k within) ∙ get_or_from_slice_get (parts starts order) k part [] at in
-    subst (All (λ n. n < size)) is (All-take (λ n. n < size) _ (drop (get_or starts k 0) order) (All-drop (λ n. n < size) (get_or starts k 0) order all))
 
 pub part-more : (starts order : List ℕ) (ranges : List RowRange) (range : RowRange) (k : ℕ) (part : List ℕ) → map numbers_in ranges ≡ take k (parts starts order)
     → slice_get (parts starts order) k ≡ Some part → numbers_in range ≡ part → map numbers_in (ranges ++ range ∷ []) ≡ take (k + 1) (parts starts order)

@@ -24,12 +24,6 @@ some_is a b e = cc e
 pub unchanged : (old new : Numbers) → IsUnchanged old new → (id : List ℕ) → number_of new id ≡ number_of old id
 unchanged old new same id = ap (lookup (is_at (λ (key : Bor (List ℕ)). slice_cmp nat_cmp id key.now))) same
 
-pub none_numbered : (numbers : Numbers) → ((id : List ℕ) → number_of numbers id ≡ None) → AreDistinct numbers
-none_numbered numbers none = record {
-  below = λ t n e. cc (sym (none t) ∙ e);
-  one = λ a b n e f. cc (sym (none a) ∙ e);
-}
-
 pub still_distinct : (old new : Numbers) → IsUnchanged old new → AreDistinct old → AreDistinct new
 still_distinct old new same distinct = record {
   below = λ t n e. let b = distinct.below t n (sym (unchanged old new same t) ∙ e) in let l = ap length same in omega (arith, b, l);
