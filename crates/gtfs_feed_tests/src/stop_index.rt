@@ -25,10 +25,10 @@ struct Case {
 
 const CASES: &[Case] = &[
     Case {
-        what: "trips by their ids, and the last stop time of none",
+        what: "trips by their stops, their starts and their ids, and the last stop time of none",
         files: &patterns::FILES,
-        given: "S1 T1 0\nS1 T2 0\nS1 T4 0\nS1 T5 0\nS1 T7 0\nS1 T9 0\nS10 T8 0\nS2 T1 1\nS2 T3 0\n",
-        filled: "S1 T1 0\nS1 T2 0\nS1 T4 0\nS1 T5 0\nS1 T7 0\nS1 T9 0\nS10 T8 0\nS2 T1 1\nS2 T3 0\n",
+        given: "S1 T2 0\nS1 T5 0\nS1 T7 0\nS1 T9 0\nS1 T4 0\nS1 T1 0\nS10 T8 0\nS2 T1 1\nS2 T3 0\n",
+        filled: "S1 T2 0\nS1 T5 0\nS1 T7 0\nS1 T9 0\nS1 T4 0\nS1 T1 0\nS10 T8 0\nS2 T1 1\nS2 T3 0\n",
     },
     Case {
         what: "a stop time without a time departs where times are filled",

@@ -1,18 +1,23 @@
 -- The departure rows of all stops: what one stop time adds, those of a trip, and their order.
-use Rattle.std.proofs.Common.{◌≡◌, ◌<◌, ◌+◌, ◌++◌, ◌∙◌, ◌&&◌, ◌==◌, ℕ, zero, suc, Bool, true, false, cond, List, [], ◌∷◌, length, map, get_or, Option, Some, None, nat_lt, refl, set, sym, take, ap, subst, arith, rules, inl, inr, ◌⊎◌}
+use Rattle.std.proofs.Common.{◌≡◌, ◌≤◌, ◌<◌, ◌+◌, ◌++◌, ◌∙◌, ◌&&◌, ◌==◌, ℕ, zero, suc, Bool, true, false, cond, List, [], ◌∷◌, length, map, get_or, Option, Some, None, nat_lt, refl, set, sym, take, ap, subst, arith, inl, inr, ◌⊎◌}
 use Rattle.std.specs.Prelude.{bytes_eq}
 use Rattle.std.specs.List.{All, slice_get}
-use Rattle.std.specs.Cmp.{IsTotalOrder, tied_itself}
-use Rattle.std.specs.Cmp.Rules.{comparing}
-use Rattle.std.specs.declared.cmp.Ordering.TheVariants.{Less}
-use Rattle.std.proofs.lemmas.Bool.{and_parts, cases_Bool, eqb-false, eqb-true, false≢true, ltb-true, ltb-false}
-use Rattle.std.proofs.lemmas.Cmp.{nat_cmp_total}
-use Rattle.std.proofs.lemmas.List.{get_or-map, get_or-set_other, get_or-set_same, get_or_default, map-append, map-set}
+use Rattle.std.specs.Cmp.{IsTotalOrder, ranked, tied_itself}
+use Rattle.std.specs.declared.cmp.Ordering.{Ordering}
+use Rattle.std.specs.declared.cmp.Ordering.TheVariants.{Less, Equal, Greater}
+use Rattle.std.specs.List.Sorted.{IsSorted}
+use Rattle.std.specs.Ordering.{is_lt, nat_cmp, ordering_reverse, ordering_then}
+use Rattle.std.specs.Cmp.Derive.{both_true}
+use Rattle.std.proofs.lemmas.Bool.{and_parts, cases_Bool, eqb-false, eqb-true, false≢true, lt-ltb, ltb-true, ltb-false}
+use Rattle.std.proofs.lemmas.Cmp.{nat_cmp_total, on_total, then_total}
+use Rattle.std.proofs.lemmas.List.{get_or-map, get_or-set_other, get_or-set_same, get_or-take, get_or_default, length-take-le, map-append, map-set, take_all, take_more}
 use Rattle.std.proofs.lemmas.List.Elements.{All-cons, All-nil, All-push, All-set}
 use Rattle.std.proofs.lemmas.List.Quantifiers.{all_pairs_push}
+use Rattle.std.proofs.lemmas.List.Sorted.{ranks_by, sorted_far}
 use Rattle.std.proofs.lemmas.Option.{get_or_from_slice_get, slice_get-get_or, slice_get_within}
 use Rattle.gtfs_field.proofs.ListFacts.{some_of}
-use Rattle.gtfs_field.proofs.OrderingFacts.{nat-less}
+use Rattle.gtfs_field.proofs.NumberFacts.{number_itself as itself}
+use Rattle.gtfs_field.proofs.OrderingFacts.{nat-less, tied_second}
 use Rattle.gtfs_columns.specs.Values.{if_there}
 use Rattle.gtfs_rows.specs.Rows as content
 use Rattle.gtfs_rows.specs.Runs.{is_departure_row}
@@ -28,14 +33,20 @@ use Rattle.gtfs_times.proofs.FilledContent.{sound-timed}
 use Rattle.gtfs_times.specs.TimedRows.{timed_parts, timed_stop_times}
 use Rattle.gtfs_times.specs.declared.times.Times.{Times}
 use Rattle.gtfs_runs.specs.Counts.{tally}
-use Rattle.gtfs_runs.specs.StopIndex.{has_departure_row, departure_row_cmp, is_this_row}
+use Rattle.gtfs_rows.specs.Order.{Ascends}
+use Rattle.gtfs_runs.specs.StopIndex.{departure_row_cmp, has_departure_row, is_this_row, index_trip_cmp}
+use Rattle.gtfs_runs.specs.declared.grouped_trip.GroupedTrip.{GroupedTrip}
 use Rattle.gtfs_runs.specs.declared.stop_index.DepartureRow.{DepartureRow}
 use Rattle.gtfs_runs.specs.steps.AtStops.{StandBefore, at_stop, departs_of, leaves_stop, position_of}
+use Rattle.gtfs_runs.specs.steps.Groups.{AreOfTrips, group_cmp, grouped_cmp, trip_group}
 use Rattle.gtfs_runs.specs.steps.Noted.{IsNoted, noted_row}
+use Rattle.gtfs_runs.specs.steps.Passings.{first_left}
 use Rattle.gtfs_runs.proofs.ContentEvents.{past_trips, row_at}
+use Rattle.gtfs_runs.proofs.GroupFacts.{found_at}
+use Rattle.gtfs_runs.proofs.Numbers.{grouped_total, groups_total}
 use Rattle.gtfs_runs.proofs.PlaceFacts.{same_stop}
 use Rattle.gtfs_runs.proofs.Pushes.{pushed-more}
-use Rattle.gtfs_runs.proofs.Tallies.{kept, tally-push}
+use Rattle.gtfs_runs.proofs.Tallies.{kept, one_at, tally-push, two_at}
 use Rattle.gtfs_runs.proofs.TimedTrips.{rows_timed, trip_times}
 
 -- ---- one stop time
@@ -189,45 +200,136 @@ trip_within p s t r holds = elim (cases_Bool (nat_lt t (length p.trips))) [
 
 -- ---- their order
 
-pub rows_total : IsTotalOrder departure_row_cmp
-rows_total = search (comparing, rules) depth 20
+pub trips_total : (p : Parts) → IsTotalOrder (index_trip_cmp p)
+trips_total p = then_total (on_total (trip_group p) groups_total) (then_total (on_total (λ t. first_left (get_or (stop_rows_by_trip p) t [])) nat_cmp_total) nat_cmp_total)
 
-pub later_row : (t n : ℕ) → departure_row_cmp (position_of t n) (position_of t (n + 1)) ≡ Less
-later_row t n = rw (tied_itself nat_cmp_total t) (nat-less n (n + 1) (omega arith))
+-- two trips that tie are one
+trips_tied : (p : Parts) (t u : ℕ) → index_trip_cmp p t u ≡ Equal → t ≡ u
+trips_tied p t u tie = ranked t u Equal (sym (tied_second _ _ (tied_second _ _ tie)))
 
-later_trip : (t n : ℕ) → departure_row_cmp (position_of t n) (position_of (t + 1) 0) ≡ Less
-later_trip t n = rw (nat-less t (t + 1) (omega arith)) refl
+pub rows_total : (p : Parts) → IsTotalOrder (departure_row_cmp p)
+rows_total p = then_total (on_total (λ x. x.trip) (trips_total p)) (on_total (λ x. x.row) nat_cmp_total)
 
--- what stands before a position stands before a later one
-stand_later : (t n v m : ℕ) (xs : List DepartureRow) → departure_row_cmp (position_of t n) (position_of v m) ≡ Less → StandBefore t n xs → StandBefore v m xs
-stand_later t n v m xs less stand = record {
-  in_order = stand.in_order;
-  before = λ k d within. rows_total.trans (get_or xs k d) (position_of t n) (position_of v m) (stand.before k d within) less;
-}
+later_row : (p : Parts) (t n : ℕ) → departure_row_cmp p (position_of t n) (position_of t (n + 1)) ≡ Less
+later_row p t n = rw (tied_itself (trips_total p) t) (nat-less n (n + 1) (omega arith))
 
-all_later : (t n v m : ℕ) (lists : List (List DepartureRow)) → departure_row_cmp (position_of t n) (position_of v m) ≡ Less
-    → All (StandBefore t n) lists → All (StandBefore v m) lists
-all_later t n v m lists less all = λ k d within. stand_later t n v m (get_or lists k d) less (all k d within)
+-- what stands before a position of a trip stands before the next one
+module _ (p : Parts) (t n : ℕ) where
+  stand_later : (xs : List DepartureRow) → StandBefore p t n xs → StandBefore p t (n + 1) xs
+  stand_later xs stand = record {
+    in_order = stand.in_order;
+    before = λ k d within. (rows_total p).trans (get_or xs k d) (position_of t n) (position_of t (n + 1)) (stand.before k d within) (later_row p t n);
+  }
 
-pub row_later : (t n : ℕ) (lists : List (List DepartureRow)) → All (StandBefore t n) lists → All (StandBefore t (n + 1)) lists
-row_later t n lists = all_later t n t (n + 1) lists (later_row t n)
+  pub row_later : (lists : List (List DepartureRow)) → All (StandBefore p t n) lists → All (StandBefore p t (n + 1)) lists
+  row_later lists all = λ k d within. stand_later (get_or lists k d) (all k d within)
 
-pub trip_later : (t n : ℕ) (lists : List (List DepartureRow)) → All (StandBefore t n) lists → All (StandBefore (t + 1) 0) lists
-trip_later t n lists = all_later t n (t + 1) 0 lists (later_trip t n)
+  -- the row at the position comes last
+  pub row_last : (s : ℕ) (y : StopRow) (x : DepartureRow) (old new : List (List DepartureRow)) → x ≡ noted_row t n y → s < length old
+      → new ≡ set old s (at_stop old s ++ x ∷ []) → All (StandBefore p t n) old → All (StandBefore p t (n + 1)) new
+  row_last s y x old new is within pushed all =
+      let own = at_stop old s in
+      let stand = all s [] within in
+      let first = stand_later own stand in
+      let last : StandBefore p t (n + 1) (own ++ x ∷ []) = record {
+        in_order = all_pairs_push (λ a b. departure_row_cmp p a b ≡ Less) own x stand.in_order (λ k d inside. ap (departure_row_cmp p (get_or own k d)) is ∙ stand.before k d inside);
+        before = All-push (λ y. departure_row_cmp p y (position_of t (n + 1)) ≡ Less) own x first.before
+            (ap (λ y. departure_row_cmp p y (position_of t (n + 1))) is ∙ later_row p t n);
+      } in
+      subst (All (StandBefore p t (n + 1))) (sym pushed) (All-set (StandBefore p t (n + 1)) old s (own ++ x ∷ []) last (row_later old all))
 
--- the row at the position comes last
-pub row_last : (t n s : ℕ) (y : StopRow) (x : DepartureRow) (old new : List (List DepartureRow)) → x ≡ noted_row t n y → s < length old
-    → new ≡ set old s (at_stop old s ++ x ∷ []) → All (StandBefore t n) old → All (StandBefore t (n + 1)) new
-row_last t n s y x old new is within pushed all =
-    let own = at_stop old s in
-    let stand = all s [] within in
-    let first = stand_later t n t (n + 1) own (later_row t n) stand in
-    let last : StandBefore t (n + 1) (own ++ x ∷ []) = record {
-      in_order = all_pairs_push (λ a b. departure_row_cmp a b ≡ Less) own x stand.in_order (λ k d inside. ap (departure_row_cmp (get_or own k d)) is ∙ stand.before k d inside);
-      before = All-push (λ y. departure_row_cmp y (position_of t (n + 1)) ≡ Less) own x first.before
-          (ap (λ y. departure_row_cmp y (position_of t (n + 1))) is ∙ later_row t n);
-    } in
-    subst (All (StandBefore t (n + 1))) (sym pushed) (All-set (StandBefore t (n + 1)) old s (own ++ x ∷ []) last (row_later t n old all))
+-- ---- trip after trip
+
+-- the trips of a feed in their order, some of which are done: how often each of these is
+abbrev pub done : List GroupedTrip → ℕ → ℕ → ℕ
+done trips n t = tally (λ x. t == x.trip.0) (take n trips)
+
+pub done_more : (trips : List GroupedTrip) (n t : ℕ) (d : GroupedTrip) → n < length trips → done trips (n + 1) t ≡ done trips n t + cond (t == (get_or trips n d).trip.0) 1 0
+done_more trips n t d within = ap (tally (λ x. t == x.trip.0)) (take_more trips n d within) ∙ tally-push (λ x. t == x.trip.0) (take n trips) (get_or trips n d)
+
+-- the rows of one trip more
+pub rows_more : (departs : Bool) (a b old new : ℕ) (own : Bool) → old ≡ cond departs a 0 → new ≡ old + cond (own && departs) 1 0 → b ≡ a + cond own 1 0 → new ≡ cond departs b 0
+rows_more true a b old new true was more is = omega (arith, was, more, is)
+rows_more true a b old new false was more is = omega (arith, was, more, is)
+rows_more false a b old new true was more is = omega (arith, was, more)
+rows_more false a b old new false was more is = omega (arith, was, more)
+
+pub none_done : (departs : Bool) (trips : List GroupedTrip) (t : ℕ) → ◌≡◌ {A = ℕ} 0 (cond departs (done trips 0 t) 0)
+none_done true trips t = refl
+none_done false trips t = refl
+
+module _ (p : Parts) (trips : List GroupedTrip) (are : AreOfTrips p (length p.trips) trips) where
+  -- each is one of the feed
+  pub known_trip : (n : ℕ) (x : GroupedTrip) → n < length trips → x ≡ get_or trips n x → x.trip.0 < length p.trips
+  known_trip n x within is =
+      let t = x.trip.0 in
+      let some = one_at (λ z. t == z.trip.0) trips n x within (ap (λ (z : GroupedTrip). t == z.trip.0) (sym is) ∙ itself t) in
+      inside (nat_lt t (length p.trips)) refl (are.once t) some
+    where
+      inside : (b : Bool) → nat_lt x.trip.0 (length p.trips) ≡ b → tally (λ z. x.trip.0 == z.trip.0) trips ≡ cond b 1 0 → 1 ≤ tally (λ z. x.trip.0 == z.trip.0) trips → x.trip.0 < length p.trips
+      inside true below count some = ltb-true x.trip.0 (length p.trips) below
+      inside false below count some = absurd (omega (arith, count, some))
+
+  -- and all are done at the end
+  pub rows_all : (n : ℕ) → length trips ≤ n → (t : ℕ) (departs : Bool) → (departs ≡ true → t < length p.trips) → cond departs (done trips n t) 0 ≡ cond departs 1 0
+  rows_all n past t departs within = by departs refl
+    where
+      by : (b : Bool) → departs ≡ b → cond b (done trips n t) 0 ≡ cond b 1 0
+      by true is = ap (tally (λ x. t == x.trip.0)) (take_all n trips past) ∙ are.once t ∙ ap (λ b. cond b 1 0) (lt-ltb t (length p.trips) (within is))
+      by false is = refl
+
+module _ (p : Parts) (trips : List GroupedTrip) (are : AreOfTrips p (length p.trips) trips) (up : IsSorted grouped_cmp trips) (n : ℕ) (within : n < length trips) where
+  -- the order of trips is that of their rows
+  same_order : (i j : ℕ) (d : GroupedTrip) → i < length trips → j < length trips
+      → grouped_cmp (get_or trips i d) (get_or trips j d) ≡ index_trip_cmp p (get_or trips i d).trip.0 (get_or trips j d).trip.0
+  same_order i j d first second = λ k.
+      ordering_then (group_cmp (are.groups i d first k) (are.groups j d second k))
+      (ordering_then (nat_cmp (are.starts i d first k) (are.starts j d second k)) (nat_cmp (get_or trips i d).trip.0 (get_or trips j d).trip.0))
+
+  -- each of the trips before is a lower one
+  lower : (k : ℕ) (d : GroupedTrip) → k < n → index_trip_cmp p (get_or trips k d).trip.0 (get_or trips n d).trip.0 ≡ Less
+  lower k d before =
+      let x = get_or trips k d in
+      let y = get_or trips n d in
+      let far : is_lt (grouped_cmp y x) ≡ false = sorted_far (λ a b. is_lt (grouped_cmp a b)) (ranks_by grouped_total (λ a. a)) trips up k n d (omega (arith, before)) within in
+      let below : k < length trips = omega (arith, before, within) in
+      strict (index_trip_cmp p x.trip.0 y.trip.0) (index_trip_cmp p y.trip.0 x.trip.0) ((trips_total p).antisymm y.trip.0 x.trip.0) (ap is_lt (sym (same_order n k d within below)) ∙ far)
+      (λ tie. twice x.trip.0 y.trip.0 (trips_tied p x.trip.0 y.trip.0 tie) (two_at (λ z. y.trip.0 == z.trip.0) trips k n d before within))
+    where
+      strict : (r q : Ordering) → q ≡ ordering_reverse r → is_lt q ≡ false → (r ≡ Equal → ⊥) → r ≡ Less
+      strict Less q turned far apart = refl
+      strict Equal q turned far apart = absurd (apart refl)
+      strict Greater q turned far apart = absurd (false≢true (sym far ∙ ap is_lt turned))
+
+      most : (b : Bool) (m : ℕ) → m ≡ cond b 1 0 → 2 ≤ m → ⊥
+      most true m is two = omega (arith, is, two)
+      most false m is two = omega (arith, is, two)
+
+      twice : (t u : ℕ) → t ≡ u → ((u == t) ≡ true → (u == u) ≡ true → 2 ≤ tally (λ z. u == z.trip.0) trips) → ⊥
+      twice t u same two = most (nat_lt u (length p.trips)) (tally (λ z. u == z.trip.0) trips) (are.once u) (two (ap (λ m. u == m) same ∙ itself u) (itself u))
+
+  -- so all rows so far stand before those of the next trip
+  pub stand_before : (lists : List (List DepartureRow)) (departs : ℕ → ℕ → ℕ → Bool) (d : GroupedTrip) → All (Ascends (departure_row_cmp p)) lists
+      → ((s t r : ℕ) → tally (is_this_row t r) (at_stop lists s) ≡ cond (departs s t r) (done trips n t) 0) → All (StandBefore p (get_or trips n d).trip.0 0) lists
+  stand_before lists departs d in_order told = λ s l inside. record {
+    in_order = in_order s l inside;
+    before = λ k x there.
+        let row = get_or (get_or lists s l) k x in
+        let here : is_this_row row.trip row.row row ≡ true = both_true (itself row.trip) (itself row.row) in
+        let some = one_at (is_this_row row.trip row.row) (get_or lists s l) k x there here in
+        let count : tally (is_this_row row.trip row.row) (get_or lists s l) ≡ cond (departs s row.trip row.row) (done trips n row.trip) 0 =
+        ap (tally (is_this_row row.trip row.row)) (get_or_default lists s l [] inside) ∙ told s row.trip row.row in
+        found_at (λ z. row.trip == z.trip.0) (take n trips) _ (counted (departs s row.trip row.row) (done trips n row.trip) (tally (is_this_row row.trip row.row) (get_or lists s l)) count some)
+        (λ i taken is.
+        let below : i < n = let size = length-take-le n trips (omega (arith, within)) in omega (arith, taken, size) in
+        let same : row.trip ≡ (get_or trips i d).trip.0 = eqb-true row.trip (get_or trips i d).trip.0 (ap (λ (z : GroupedTrip). row.trip == z.trip.0) (sym (get_or-take n trips i d below)) ∙ is d) in
+        let less : index_trip_cmp p row.trip (get_or trips n d).trip.0 ≡ Less = ap (λ m. index_trip_cmp p m (get_or trips n d).trip.0) same ∙ lower i d below in
+        ap (λ o. ordering_then o (nat_cmp row.row 0)) less);
+  }
+    where
+      counted : (b : Bool) (a m : ℕ) → m ≡ cond b a 0 → 1 ≤ m → 1 ≤ a
+      counted true a m is some = omega (arith, is, some)
+      counted false a m is some = absurd (omega (arith, is, some))
 
 -- what is noted of a stop time at a position of its trip is right
 pub noted_here : (p : Parts) (t n : ℕ) (rows : List StopRow) (y : StopRow) (x : DepartureRow) → slice_get (stop_rows_by_trip p) t ≡ Some rows → n < length rows → y ≡ get_or rows n y → x ≡ noted_row t n y
@@ -237,10 +339,6 @@ noted_here p t n rows y x at within is noted = λ others d there inside.
     let same : others ≡ rows = sym (get_or_from_slice_get lists x.trip others [] there) ∙ ap (λ z. get_or lists z.trip []) noted ∙ get_or_from_slice_get lists t rows [] at in
     let item : get_or others x.row d ≡ y = (λ i. get_or (same i) (noted i).row d) ∙ get_or_default rows n d y within ∙ sym is in
     noted ∙ (λ i. noted_row (sym noted i).trip (sym noted i).row (sym item i))
-
--- those of one list
-pub noted_at : (p : Parts) (lists : List (List DepartureRow)) (s : ℕ) (own : List DepartureRow) → slice_get lists s ≡ Some own → All (All (IsNoted p)) lists → All (IsNoted p) own
-noted_at p lists s own at all = subst (All (IsNoted p)) (get_or_from_slice_get lists s own own at) (all s own (slice_get_within lists s own at))
 
 -- one list gets one more of these
 pub noted_last : (p : Parts) (s : ℕ) (x : DepartureRow) (old new : List (List DepartureRow)) → IsNoted p x → s < length old → new ≡ set old s (at_stop old s ++ x ∷ []) → All (All (IsNoted p)) old
@@ -260,12 +358,9 @@ nothing_at [] s = refl
 nothing_at (x ∷ xs) zero = refl
 nothing_at (x ∷ xs) (suc s) = nothing_at xs s
 
-pub nothing_stands : {X : Type 0} (xs : List X) (t r : ℕ) → All (StandBefore t r) (map (λ _. []) xs)
-nothing_stands [] t r = All-nil (StandBefore t r)
-nothing_stands (x ∷ xs) t r =
-    All-cons (StandBefore t r) [] (map (λ _. []) xs)
-    (record { in_order = λ i j d before within. absurd (omega (arith, within)); before = All-nil (λ y. departure_row_cmp y (position_of t r) ≡ Less) })
-    (nothing_stands xs t r)
+pub nothing_ascends : {X : Type 0} (p : Parts) (xs : List X) → All (Ascends (departure_row_cmp p)) (map (λ _. []) xs)
+nothing_ascends p [] = All-nil (Ascends (departure_row_cmp p))
+nothing_ascends p (x ∷ xs) = All-cons (Ascends (departure_row_cmp p)) [] (map (λ _. []) xs) (λ i j d before within. absurd (omega (arith, within))) (nothing_ascends p xs)
 
 -- one more list is empty
 pub room_more : {V X : Type 0} (f : V → List DepartureRow) (xs : List X) (n : ℕ) (before after : List V) (v : V) → n < length xs → map f before ≡ map (λ _. []) (take n xs)

@@ -46,14 +46,16 @@ group_is p t u rs at_trip at_rows =
 
 -- ---- all trips
 
-pub one_trip_more : (p : Parts) (n : ℕ) (xs new : List GroupedTrip) (x : GroupedTrip) → x.trip.0 ≡ n → group_of x ≡ trip_group p n → new ≡ xs ++ x ∷ [] → AreOfTrips p n xs
-    → AreOfTrips p (n + 1) new
-one_trip_more p n xs new x is group pushed are = record {
+pub one_trip_more : (p : Parts) (n : ℕ) (xs new : List GroupedTrip) (x : GroupedTrip) → x.trip.0 ≡ n → group_of x ≡ trip_group p n → x.start ≡ first_left (get_or (stop_rows_by_trip p) n [])
+    → new ≡ xs ++ x ∷ [] → AreOfTrips p n xs → AreOfTrips p (n + 1) new
+one_trip_more p n xs new x is group start pushed are = record {
   once = λ t.
       ap (tally (λ y. t == y.trip.0)) pushed ∙ tally-push (λ y. t == y.trip.0) xs x ∙ ap (λ m. tally (λ y. t == y.trip.0) xs + cond (t == m) 1 0) is
       ∙ ap (λ m. m + cond (t == n) 1 0) (are.once t) ∙ next t;
   groups = subst (All (λ y. group_of y ≡ trip_group p y.trip.0)) (sym pushed)
       (All-push (λ y. group_of y ≡ trip_group p y.trip.0) xs x are.groups (group ∙ ap (trip_group p) (sym is)));
+  starts = subst (All (λ y. y.start ≡ first_left (get_or (stop_rows_by_trip p) y.trip.0 []))) (sym pushed)
+      (All-push (λ y. y.start ≡ first_left (get_or (stop_rows_by_trip p) y.trip.0 [])) xs x are.starts (start ∙ ap (λ m. first_left (get_or (stop_rows_by_trip p) m [])) (sym is)));
 }
   where
     and_true : (b : Bool) → ◌≡◌ {A = ℕ} (cond b 1 0) (cond (b && true) 1 0)
@@ -63,8 +65,16 @@ one_trip_more p n xs new x is group pushed are = record {
     next : (t : ℕ) → cond (nat_lt t n) 1 0 + cond (t == n) 1 0 ≡ cond (nat_lt t (n + 1)) 1 0
     next t = (λ i. and_true (nat_lt t n) i + and_true (t == n) i) ∙ one_more_below t n true ∙ sym (and_true (nat_lt t (n + 1)))
 
+-- the same in another order
+pub trips_moved : (p : Parts) (n : ℕ) (xs ys : List GroupedTrip) → IsPermutation xs ys → AreOfTrips p n xs → AreOfTrips p n ys
+trips_moved p n xs ys same are = record {
+  once = λ t. tally-permutation (λ x. t == x.trip.0) xs ys same ∙ are.once t;
+  groups = All-permutation (λ x. group_of x ≡ trip_group p x.trip.0) xs ys same are.groups;
+  starts = All-permutation (λ x. x.start ≡ first_left (get_or (stop_rows_by_trip p) x.trip.0 [])) xs ys same are.starts;
+}
+
 -- a place where a test passes, of a list in which one passes
-found_at : {X : Type 0} (q : X → Bool) (xs : List X) (R : Type 0) → 1 ≤ tally q xs → ((i : ℕ) → i < length xs → ((d : X) → q (get_or xs i d) ≡ true) → R) → R
+pub found_at : {X : Type 0} (q : X → Bool) (xs : List X) (R : Type 0) → 1 ≤ tally q xs → ((i : ℕ) → i < length xs → ((d : X) → q (get_or xs i d) ≡ true) → R) → R
 found_at q [] R some take = absurd (omega (arith, some))
 found_at q (x ∷ xs) R some take = elim (cases_Bool (q x)) [
   | inl here ↦ take 0 (omega arith) (λ d. here)
@@ -212,9 +222,9 @@ stands_once xs once i j d before within same =
 
 -- ---- all together
 
-module _ (p : Parts) (sound : IsSoundParts p) (xs sorted : List GroupedTrip) (same : IsPermutation xs sorted) (are : AreOfTrips p (length p.trips) xs) where
+module _ (p : Parts) (sound : IsSoundParts p) (sorted : List GroupedTrip) (are : AreOfTrips p (length p.trips) sorted) where
   times_there : (t : ℕ) → tally (λ x. t == x.trip.0) sorted ≡ cond (nat_lt t (length p.trips)) 1 0
-  times_there t = tally-permutation (λ x. t == x.trip.0) xs sorted same ∙ are.once t
+  times_there = are.once
 
   pub at_most_once : (t : ℕ) → tally (λ x. t == x.trip.0) sorted ≤ 1
   at_most_once t = most (nat_lt t (length p.trips)) (tally (λ x. t == x.trip.0) sorted) (times_there t)
@@ -251,11 +261,10 @@ module _ (p : Parts) (sound : IsSoundParts p) (xs sorted : List GroupedTrip) (sa
           → ((d : GroupedTrip) → (u == (get_or sorted j d).trip.0) ≡ true) → nat_cmp (get_or trips t e).group (get_or trips u e).group ≡ group_cmp (trip_group p t) (trip_group p u)
       pair t u e i j first second is has =
           let d : GroupedTrip = some_of sorted i first in
-          let groups = All-permutation (λ x. group_of x ≡ trip_group p x.trip.0) xs sorted same are.groups in
           let one : t ≡ (get_or sorted i d).trip.0 = eqb-true t _ (is d) in
           let other : u ≡ (get_or sorted j d).trip.0 = eqb-true u _ (has d) in
           (λ k. nat_cmp (get_or trips (one k) e).group (get_or trips (other k) e).group) ∙ numbers i j d e first second
-          ∙ (λ k. group_cmp ((groups i d first ∙ ap (trip_group p) (sym one)) k) ((groups j d second ∙ ap (trip_group p) (sym other)) k))
+          ∙ (λ k. group_cmp ((are.groups i d first ∙ ap (trip_group p) (sym one)) k) ((are.groups j d second ∙ ap (trip_group p) (sym other)) k))
 
 -- an element that stands nowhere
 abbrev pub no_trip : IndexedTrip

@@ -31,7 +31,7 @@ any_kept q f (x ∷ xs) = elim (cases_Bool (f x)) [
     never false = refl
 
 pub are-departure-rows : (choice : Times) (p : Parts) → IsSoundParts p → (lists : List (List DepartureRow)) → length lists ≡ length p.stops
-    → ((s t r : ℕ) → tally (is_this_row t r) (at_stop lists s) ≡ cond (departs_of (timed_parts choice p) s t r) 1 0) → All (Ascends departure_row_cmp) lists
+    → ((s t r : ℕ) → tally (is_this_row t r) (at_stop lists s) ≡ cond (departs_of (timed_parts choice p) s t r) 1 0) → All (Ascends (departure_row_cmp p)) lists
     → AreDepartureRows choice p lists
 are-departure-rows choice p sound lists size told up =
     let q = timed_parts choice p in

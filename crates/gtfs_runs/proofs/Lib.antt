@@ -11,6 +11,8 @@ mod PlaceFacts
 pub mod Pushes
 pub mod Runs
 pub mod RowEvents
+mod RowFinds
+mod RowSteps
 mod RowsSoFar
 pub mod RunStarts
 mod LaneTallies
@@ -34,6 +36,7 @@ pub mod TripIds
 mod SeekOrder
 mod AtStopFacts
 mod IndexFacts
+mod IndexRows
 mod NumberParts
 mod ChildFacts
 mod PlaceRows

@@ -12,9 +12,9 @@ use Rattle.std.specs.declared.cmp.Ordering.TheVariants.{Less, Equal, Greater}
 use Rattle.std.specs.Ordering.{is_eq, is_lt, nat_cmp, on, ordering_then, then_cmp}
 use Rattle.std.proofs.Math.Seq.{map-set_same}
 use Rattle.std.proofs.lemmas.Bool.{and_parts, cases_Bool, eqb-true, ltb-false, ltb-true}
-use Rattle.std.proofs.lemmas.Cmp.{nat_cmp_total}
+use Rattle.std.proofs.lemmas.Cmp.{nat_cmp_total, on_total, then_total}
 use Rattle.std.proofs.lemmas.List.{get_or-map, get_or-take, get_or_default, length-map, length-take-le}
-use Rattle.std.proofs.lemmas.List.Elements.{All-drop, All-map, All-nil, All-set}
+use Rattle.std.proofs.lemmas.List.Elements.{All-drop, All-map, All-set}
 use Rattle.std.proofs.lemmas.List.Sorted.{All-permutation}
 use Rattle.gtfs_field.proofs.OrderingFacts.{tied as both_equal}
 use Rattle.gtfs_rows.proofs.SameElements.{pairs-map}
@@ -24,7 +24,7 @@ use Rattle.gtfs_runs.specs.Order.{event_cmp}
 use Rattle.gtfs_runs.specs.declared.grouped_trip.GroupedTrip.{GroupedTrip}
 use Rattle.gtfs_runs.specs.declared.stop_lanes.listed.Listed.{Listed}
 use Rattle.gtfs_runs.specs.steps.Courses.{AreServed, course_no_cmp, event_of, stopping_cmp, stopping_of}
-use Rattle.gtfs_runs.specs.steps.Groups.{Group, below, group_cmp, group_of, sharing, trip_group}
+use Rattle.gtfs_runs.specs.steps.Groups.{Group, below, group_cmp, group_of, grouped_cmp, sharing, trip_group}
 use Rattle.gtfs_runs.specs.steps.Numbers.{AreNumbered, IsNumbered, is_alike, listed_cmp}
 use Rattle.gtfs_runs.proofs.Chunks.{all_mapped}
 use Rattle.gtfs_runs.proofs.Ranks.{ranks_compare}
@@ -32,6 +32,9 @@ use Rattle.gtfs_runs.proofs.Tallies.{tally-permutation, tally-push}
 
 pub groups_total : IsTotalOrder group_cmp
 groups_total = search (comparing, rules) depth 20
+
+pub grouped_total : IsTotalOrder grouped_cmp
+grouped_total = then_total (on_total group_of groups_total) (then_total (on_total (λ x. x.start) nat_cmp_total) (on_total (λ x. x.trip.0) nat_cmp_total))
 
 pub groups_antisymmetric : IsAntisymmetric group_cmp
 groups_antisymmetric a b h =
@@ -152,6 +155,10 @@ first_not_less Less s is = is
 first_not_less Equal s is = λ i. false
 first_not_less Greater s is = λ i. false
 
+-- trips in their order stand by group
+pub by_groups : (xs : List GroupedTrip) → IsSorted grouped_cmp xs → IsSorted (λ x y. group_cmp (group_of x) (group_of y)) xs
+by_groups xs up k d from within = first_not_less _ _ (up k d from within)
+
 -- that of the fields, of which the service and the rank are the last
 abbrev pub field_cmp : Listed → Listed → Ordering
 field_cmp = then_cmp (on (λ x. x.group) nat_cmp)
@@ -236,9 +243,6 @@ alike_more xs n a b inside first last same so_far k d below = elim (cases_Bool (
 ]
 
 -- ---- services
-
-pub none_served : (p : Parts) (xs : List Listed) → xs ≡ [] → AreServed p xs
-none_served p xs none = subst (AreServed p) (sym none) (All-nil (λ x. (trip_group p x.trip).0 ≡ x.service))
 
 -- an event that gets its number keeps its service
 pub served_kept : (p : Parts) (xs : List Listed) (n : ℕ) (x y : Listed) → n < length xs → x ≡ get_or xs n x → y.trip ≡ x.trip → y.service ≡ x.service → AreServed p xs

@@ -1,6 +1,6 @@
 -- What leaves a place, by its departure rows: those of a trip are the stop times that it passes there, and a trip without any
 -- adds nothing.
-use Rattle.std.proofs.Common.{◌≡◌, ◌≤◌, ◌<◌, ◌+◌, ◌*◌, ◌-◌, ◌++◌, ◌∙◌, ◌&&◌, ◌||◌, ◌==◌, ℕ, zero, suc, Bool, true, false, cond, List, [], ◌∷◌, length, map, filter, drop, get_or, Some, None, nat_lt, nat_le, refl, sym, ap, subst, arith, inl, inr, zero-add}
+use Rattle.std.proofs.Common.{◌≡◌, ◌≤◌, ◌<◌, ◌+◌, ◌*◌, ◌-◌, ◌++◌, ◌∙◌, ◌&&◌, ◌||◌, ◌==◌, ℕ, zero, suc, Bool, true, false, cond, List, [], ◌∷◌, length, map, filter, get_or, Some, None, nat_lt, nat_le, refl, sym, ap, subst, arith, inl, inr, zero-add}
 use Rattle.std.specs.List.{All, AllPairs, enumerate_from, list_any, slice_get}
 use Rattle.std.specs.Cmp.{ranked, tied_itself}
 use Rattle.std.specs.Ordering.{nat_cmp, ordering_then}
@@ -10,6 +10,7 @@ use Rattle.std.proofs.lemmas.Bool.{and_parts, cases_Bool, eqb-true, true≢false
 use Rattle.std.proofs.lemmas.Bool.Decides.{nat_tests}
 use Rattle.std.proofs.lemmas.List.{append-nil}
 use Rattle.std.proofs.lemmas.List.Elements.{All-head, All-map, All-tail}
+use Rattle.std.proofs.lemmas.List.Sorted.{IsPermutation-refl}
 use Rattle.std.proofs.lemmas.Option.{same_Some, slice_get-get_or}
 use Rattle.std.proofs.lemmas.Simd.{map-map}
 use Rattle.gtfs_columns.specs.Values.{if_there}
@@ -24,20 +25,20 @@ use Rattle.gtfs_stop_times.specs.declared.stop_row.StopRow.{StopRow}
 use Rattle.gtfs_rows.specs.declared.trip.Trip.{Trip}
 use Rattle.gtfs_rows.proofs.SameElements.{pairs-head, pairs-map, pairs-tail}
 use Rattle.gtfs_table.proofs.PartFacts.{length-parts}
-use Rattle.gtfs_runs.specs.StopIndex.{departure_row_cmp, is_this_row}
-use Rattle.gtfs_runs.specs.StopLanes.{LaneValue}
+use Rattle.gtfs_runs.specs.Counts.{tally}
+use Rattle.gtfs_runs.specs.StopIndex.{is_this_row}
 use Rattle.gtfs_runs.specs.declared.event.Event.{Event}
 use Rattle.gtfs_runs.specs.declared.stop_index.DepartureRow.{DepartureRow}
 use Rattle.gtfs_runs.specs.declared.stop_lanes.passing.Passing.{Passing}
 use Rattle.gtfs_runs.specs.steps.Courses.{Stopping}
 use Rattle.gtfs_runs.specs.steps.Groups.{stops_in}
-use Rattle.gtfs_runs.specs.steps.Finds.{AreFound, stopping_at, times_passed_in, times_told}
+use Rattle.gtfs_runs.specs.steps.Finds.{AreTold, stopping_at, times_passed_in}
 use Rattle.gtfs_runs.specs.steps.Passings.{ArePassings, first_left, leaves, passing_at, passings_of}
-use Rattle.gtfs_runs.specs.steps.Places.{ArePlaceRows, IsStopTime, departs_in_place, first_trip, passing_of}
+use Rattle.gtfs_runs.specs.steps.Places.{AreOfPlace, ArePlaceRows, IsStopTime, departs_in_place, first_trip, number_cmp, passing_of}
 use Rattle.gtfs_runs.proofs.AtStopFacts.{asked_within}
 use Rattle.gtfs_runs.proofs.PlaceRows.{first_lowest, in_place_of, place_within}
-use Rattle.gtfs_runs.proofs.Tallies.{no_trips}
-use Rattle.gtfs_runs.proofs.TripFinds.{listed_found, periods_found}
+use Rattle.gtfs_runs.proofs.Tallies.{no_trips, one_at}
+use Rattle.gtfs_runs.proofs.TripFinds.{listed_told, periods_told}
 
 -- ---- elements with their positions, by which they are those that pass
 
@@ -124,7 +125,7 @@ any_of : {X : Type 0} (q r : X → Bool) (ys : List X) → All (λ y. q y ≡ r 
 any_of q r [] same = refl
 any_of q r (y ∷ ys) same = λ i. All-head (λ z. q z ≡ r z) y ys same i || any_of q r ys (All-tail (λ z. q z ≡ r z) y ys same) i
 
-rows_rise : (x y : DepartureRow) → x.trip ≡ y.trip → departure_row_cmp x y ≡ Less → x.row < y.row
+rows_rise : (x y : DepartureRow) → x.trip ≡ y.trip → number_cmp x y ≡ Less → x.row < y.row
 rows_rise x y same less =
     let tie : nat_cmp x.trip y.trip ≡ Equal = (λ i. nat_cmp (same i) y.trip) ∙ tied_itself nat_cmp_total y.trip in
     ranked x.row y.row Less (sym (sym (ap (λ o. ordering_then o (nat_cmp x.row y.row)) tie) ∙ less))
@@ -149,7 +150,7 @@ module _ (p : Parts) (sound : IsSoundParts p) (s t : ℕ) (u : Trip) (rows : Lis
         itself_row : (x : DepartureRow) → is_this_row x.trip x.row x ≡ true
         itself_row x = rw (itself x.trip, itself x.row) refl
 
-    own_passings : (d : StopRow) → Ascends departure_row_cmp own → map (passing_of rows d) own ≡ passings_of p s u rows fs
+    own_passings : (d : StopRow) → Ascends number_cmp own → map (passing_of rows d) own ≡ passings_of p s u rows fs
     own_passings d up =
         let f : DepartureRow → ℕ × StopRow = λ x. (x.row, get_or rows x.row d) in
         let q = leaves p s u rows fs in
@@ -201,7 +202,7 @@ module _ (p : Parts) (sound : IsSoundParts p) (s : ℕ) where
         slice_get-get_or (frequencies_by_trip p) t [] here
 
     -- the stop times of a trip at its departure rows there are all that it passes
-    pub are-passings : (own : List DepartureRow) (xs : List Passing) → Ascends departure_row_cmp own → All (λ x. x.trip ≡ t) own → ((r : ℕ) → list_any (is_this_row t r) own ≡ departs_in_place p s t r)
+    pub are-passings : (own : List DepartureRow) (xs : List Passing) → Ascends number_cmp own → All (λ x. x.trip ≡ t) own → ((r : ℕ) → list_any (is_this_row t r) own ≡ departs_in_place p s t r)
         → ((rs : List StopRow) (d : StopRow) → slice_get (stop_rows_by_trip p) t ≡ Some rs → xs ≡ map (passing_of rs d) own) → 0 < length own → ArePassings p s t xs
     are-passings own xs up of_trip all made some v rs gs at =
         let same : rs ≡ rows = same_Some rs rows (sym at ∙ at_rows) in
@@ -221,8 +222,8 @@ module _ (p : Parts) (sound : IsSoundParts p) (s : ℕ) where
     row_within r there = asked_within true (λ z. leaves p s u rows fs (r, z)) rows r (sym (in_place_of p sound s t u rows fs at_trip at_rows at_periods r) ∙ there)
 
     -- a trip that does not depart there adds nothing
-    pub none_more : ((r : ℕ) → departs_in_place p s t r ≡ false) → (listed : List Stopping) (periods : List LaneValue) → AreFound p s t listed periods → AreFound p s (t + 1) listed periods
-    none_more none listed periods was = of_periods fs at_periods
+    pub none_more : ((r : ℕ) → departs_in_place p s t r ≡ false) → (listed : List Stopping) (told : ℕ → Event → ℕ) (count : ℕ) → AreTold p s t listed told count → AreTold p s (t + 1) listed told count
+    none_more none listed told count was = of_periods fs at_periods
       where
         no_more : (n : ℕ) → n ≡ n + 0
         no_more n = omega arith
@@ -234,29 +235,28 @@ module _ (p : Parts) (sound : IsSoundParts p) (s : ℕ) where
         nothing true = refl
         nothing false = refl
 
-        of_periods : (gs : List Frequency) → slice_get (frequencies_by_trip p) t ≡ Some gs → AreFound p s (t + 1) listed periods
+        of_periods : (gs : List Frequency) → slice_get (frequencies_by_trip p) t ≡ Some gs → AreTold p s (t + 1) listed told count
         of_periods [] at =
             let no = no_passings p sound s t u rows [] at_trip at_rows at none in
-            listed_found p sound s t u rows at_trip at_rows at listed listed periods
+            listed_told p sound s t u rows at_trip at_rows at listed listed told count
             (sym (append-nil listed) ∙ ap (λ l. listed ++ map (stopping_at (stops_in rows) u.service_id.0 t (first_left rows)) l) no) was
         of_periods (g ∷ gs) at =
             let no = no_passings p sound s t u rows (g ∷ gs) at_trip at_rows at none in
-            periods_found p sound s t u rows (g ∷ gs) at_trip at_rows at (omega arith) listed periods periods
-            (λ k e. no_more (times_told k e periods)
-            ∙ ap (λ n. times_told k e periods + n) (nothing (u.service_id.0 == k) ∙ ap (λ n. cond (u.service_id.0 == k) n 0) (sym (none_passed t e (g ∷ gs)) ∙ ap (λ l. times_passed_in t e l (g ∷ gs)) no)))
-            (no_product (length periods) (length (g ∷ gs)) ∙ ap (λ l. length periods + length (g ∷ gs) * length l) no)
-            (λ n serves were. were) (λ k v has are were. were) was
+            periods_told p sound s t u rows (g ∷ gs) at_trip at_rows at (omega arith) listed told told count count
+            (λ k e. no_more (told k e)
+            ∙ ap (λ n. told k e + n) (nothing (u.service_id.0 == k) ∙ ap (λ n. cond (u.service_id.0 == k) n 0) (sym (none_passed t e (g ∷ gs)) ∙ ap (λ l. times_passed_in t e l (g ∷ gs)) no)))
+            (no_product count (length (g ∷ gs)) ∙ ap (λ l. count + length (g ∷ gs) * length l) no) was
 
   -- ---- from trip to trip
 
   none_until : (k n : ℕ) → k + n ≤ length p.trips → ((t : ℕ) → k ≤ t → t < k + n → (r : ℕ) → departs_in_place p s t r ≡ false)
-      → (listed : List Stopping) (periods : List LaneValue) → AreFound p s k listed periods → AreFound p s (k + n) listed periods
-  none_until k zero upto none listed periods was = let same : k ≡ k + 0 = omega arith in subst (λ m. AreFound p s m listed periods) same was
-  none_until k (suc n) upto none listed periods was =
+      → (listed : List Stopping) (told : ℕ → Event → ℕ) (count : ℕ) → AreTold p s k listed told count → AreTold p s (k + n) listed told count
+  none_until k zero upto none listed told count was = let same : k ≡ k + 0 = omega arith in subst (λ m. AreTold p s m listed told count) same was
+  none_until k (suc n) upto none listed told count was =
       let next : k + n + 1 ≡ k + suc n = omega arith in
-      subst (λ m. AreFound p s m listed periods) next
-      (none_more (k + n) (omega (arith, upto)) (none (k + n) (omega arith) (omega arith)) listed periods
-      (none_until k n (omega (arith, upto)) (λ t from below. none t from (omega (arith, below))) listed periods was))
+      subst (λ m. AreTold p s m listed told count) next
+      (none_more (k + n) (omega (arith, upto)) (none (k + n) (omega arith) (omega arith)) listed told count
+      (none_until k n (omega (arith, upto)) (λ t from below. none t from (omega (arith, below))) listed told count was))
 
   module _ (k : ℕ) (ys : List DepartureRow) (are : ArePlaceRows p s k ys) (upto : k ≤ length p.trips) where
     abbrev first : ℕ
@@ -282,13 +282,13 @@ module _ (p : Parts) (sound : IsSoundParts p) (s : ℕ) where
     silent : (t r : ℕ) → t < first → list_any (is_this_row t r) ys ≡ false
     silent t r below = none_lower ys t r (λ j d within. let low = first_lowest (length p.trips) ys are.in_order j d within in omega (arith, below, low))
 
-    pub raised : (listed : List Stopping) (periods : List LaneValue) → AreFound p s k listed periods → AreFound p s (first_trip (length p.trips) ys) listed periods
-    raised listed periods was =
+    pub raised : (listed : List Stopping) (told : ℕ → Event → ℕ) (count : ℕ) → AreTold p s k listed told count → AreTold p s (first_trip (length p.trips) ys) listed told count
+    raised listed told count was =
         let b = bounds ys are in
         let n = first - k in
         let sum : k + n ≡ first = omega (arith, b.0) in
-        subst (λ m. AreFound p s m listed periods) sum
-        (none_until k n (omega (arith, b.0, b.1)) (λ t from below r. of_trip t r from (omega (arith, below, b.0))) listed periods was)
+        subst (λ m. AreTold p s m listed told count) sum
+        (none_until k n (omega (arith, b.0, b.1)) (λ t from below r. of_trip t r from (omega (arith, below, b.0))) listed told count was)
       where
         of_trip : (t r : ℕ) → k ≤ t → t < first → departs_in_place p s t r ≡ false
         of_trip t r from below = ap (λ b. b && departs_in_place p s t r) (sym (le-leb k t from)) ∙ sym (are.all t r) ∙ silent t r below
@@ -309,22 +309,14 @@ module _ (p : Parts) (sound : IsSoundParts p) (s : ℕ) where
 
 -- ---- the steps of the code
 
-pub nothing_found : (p : Parts) (s : ℕ) → AreFound p s 0 [] []
-nothing_found p s = record {
+pub nothing_told : (p : Parts) (s : ℕ) → AreTold p s 0 [] (λ k e. 0) 0
+nothing_told p s = record {
   exact = λ k e within. no_trips e.trip.0 _;
   known = λ k d within. absurd (omega arith);
   own = λ k d within. absurd (omega arith);
-  within = λ k d within. absurd (omega arith);
-  runs = λ k d within. absurd (omega arith);
-  courses = refl;
+  courses = IsPermutation-refl [];
   counted = refl;
 }
-
-pub nothing_left : {X : Type 0} (xs : List X) (n : ℕ) → length xs ≤ n → drop n xs ≡ []
-nothing_left [] zero past = refl
-nothing_left [] (suc n) past = refl
-nothing_left (x ∷ xs) zero past = absurd (omega arith)
-nothing_left (x ∷ xs) (suc n) past = nothing_left xs n (omega arith)
 
 -- the trip of the first is one of the feed
 pub first_within : (p : Parts) (s t : ℕ) (xs : List DepartureRow) → ArePlaceRows p s t xs → first_trip (length p.trips) xs ≡ t → 0 < length xs → t < length p.trips
@@ -336,11 +328,15 @@ first_within p s t (x ∷ xs) are is some =
     omega (arith, inside, is)
 
 -- they are stop times of trips
-pub stop_times_there : (p : Parts) → IsSoundParts p → (s k : ℕ) (xs : List DepartureRow) → ArePlaceRows p s k xs → All (IsStopTime p) xs
-stop_times_there p sound s k xs are j d below =
+pub stop_times_there : (p : Parts) → IsSoundParts p → (s : ℕ) (xs : List DepartureRow) → AreOfPlace p s xs → All (IsStopTime p) xs
+stop_times_there p sound s xs of j d below =
     let x = get_or xs j d in
     let here : is_this_row x.trip x.row x ≡ true = rw (itself x.trip, itself x.row) refl in
-    let there = (and_parts (nat_le k x.trip) (departs_in_place p s x.trip x.row) (sym (are.all x.trip x.row) ∙ any_at (is_this_row x.trip x.row) xs j d below here)).1 in
+    let there = counted_one (departs_in_place p s x.trip x.row) (tally (is_this_row x.trip x.row) xs) (of x.trip x.row) (one_at (is_this_row x.trip x.row) xs j d below here) in
     let inside = place_within p s x.trip x.row there in
     ap (λ o. if_there o (λ rs. nat_lt x.row (length rs))) (at_rows p sound s x.trip inside)
     ∙ lt-ltb x.row (length (get_or (stop_rows_by_trip p) x.trip [])) (row_within p sound s x.trip inside x.row there)
+  where
+    counted_one : (b : Bool) (n : ℕ) → n ≡ cond b 1 0 → 1 ≤ n → b ≡ true
+    counted_one true n is some = refl
+    counted_one false n is some = absurd (omega (arith, is, some))

@@ -1,26 +1,24 @@
--- The departure rows at the place of a stop: of its stops put together, and cut by trip.
-use Rattle.std.proofs.Common.{◌≡◌, ◌≤◌, ◌<◌, ◌+◌, ◌++◌, ◌∙◌, ◌&&◌, ◌||◌, ◌==◌, ℕ, zero, suc, Bool, true, false, not, cond, List, [], ◌∷◌, length, filter, take, drop, add-one, get_or, Option, Some, None, nat_lt, nat_le, refl, sym, ap, subst, arith, inl, inr}
+-- The departure rows at the place of a stop: of its stops put together, by the numbers of trips, and cut by trip.
+use Rattle.std.proofs.Common.{◌≡◌, ◌≤◌, ◌<◌, ◌+◌, ◌∙◌, ◌&&◌, ◌||◌, ◌==◌, ℕ, zero, suc, Bool, true, false, not, cond, List, [], ◌∷◌, length, filter, take, drop, get_or, Option, Some, None, nat_lt, nat_le, refl, sym, ap, subst, arith, inl, inr, rules}
 use Rattle.std.specs.Prelude.{option_map}
 use Rattle.std.specs.List.{All, list_any, slice_get}
-use Rattle.std.specs.List.Sorted.{IsPartitionedBy, IsPermutation, IsSorted}
-use Rattle.std.specs.Cmp.{ranked, tied_itself}
+use Rattle.std.specs.List.Sorted.{IsPermutation}
+use Rattle.std.specs.Cmp.{IsTotalOrder, ranked, tied_itself}
+use Rattle.std.specs.Cmp.Rules.{comparing}
 use Rattle.std.specs.Cmp.Derive.{both_true}
 use Rattle.std.specs.declared.cmp.Ordering.{Ordering}
 use Rattle.std.specs.declared.cmp.Ordering.TheVariants.{Less, Equal, Greater}
 use Rattle.std.specs.Ordering.{is_lt, nat_cmp, ordering_reverse, ordering_then}
-use Rattle.std.proofs.lemmas.Cmp.{nat_cmp_total}
-use Rattle.std.proofs.lemmas.Bool.{and_parts, cases_Bool, eqb-true, false≢true, true≢false, le-leb, leb-true, lt-ltb, ne_eqb, ltb-true, ltb-false}
+use Rattle.std.proofs.lemmas.Bool.{and_parts, cases_Bool, eqb-true, false≢true, true≢false, le-leb, leb-true, lt-ltb, ltb-true, ltb-false}
 use Rattle.std.proofs.lemmas.Bool.Decides.{nat_tests}
-use Rattle.std.proofs.Math.Seq.{take-suc}
-use Rattle.std.proofs.lemmas.List.{get_or_default}
-use Rattle.std.proofs.lemmas.List.Elements.{All-cons}
-use Rattle.std.proofs.lemmas.List.Kept.{AllPairs-filter}
-use Rattle.std.proofs.lemmas.List.Sorted.{ranks_by, sorted_far}
+use Rattle.std.proofs.lemmas.List.Elements.{All-cons, All-head, All-nil, All-tail}
+use Rattle.std.proofs.lemmas.List.Kept.{AllPairs-cons, AllPairs-filter}
+use Rattle.std.proofs.lemmas.List.Sorted.{All-permutation, IsPermutation-cons, IsPermutation-middle, IsPermutation-refl, IsPermutation-trans}
 use Rattle.std.proofs.lemmas.Option.{get_or_from_slice_get, slice_get-get_or, slice_get_within}
 use Rattle.gtfs_columns.specs.Values.{if_there}
 use Rattle.gtfs_field.proofs.ListFacts.{any_alike, any_silent, some_of}
 use Rattle.gtfs_field.proofs.NumberFacts.{number_itself as itself}
-use Rattle.gtfs_field.proofs.OrderingFacts.{first_at_most, tied_first as first_tie, tied_second as second_tie}
+use Rattle.gtfs_field.proofs.OrderingFacts.{less as is_less, first_at_most, tied_first as first_tie, tied_second as second_tie}
 use Rattle.gtfs_rows.specs.Choices.{location_code}
 use Rattle.gtfs_rows.specs.Places.{is_in_place, members}
 use Rattle.gtfs_rows.specs.Rows as content
@@ -41,13 +39,13 @@ use Rattle.gtfs_times.proofs.TimedContent.{content-timed}
 use Rattle.gtfs_times.specs.TimedRows.{timed_parts}
 use Rattle.gtfs_times.specs.declared.times.Times.{Times}
 use Rattle.gtfs_runs.specs.Counts.{tally}
-use Rattle.gtfs_runs.specs.StopIndex.{AreDepartureRows, has_departure_row, departure_row_cmp, is_this_row}
+use Rattle.gtfs_runs.specs.StopIndex.{AreDepartureRows, departure_row_cmp, has_departure_row, is_this_row, index_trip_cmp}
 use Rattle.gtfs_runs.specs.declared.stop_index.DepartureRow.{DepartureRow}
 use Rattle.gtfs_runs.specs.declared.stop_index.children.Child.{Child}
 use Rattle.gtfs_runs.specs.steps.Children.{is_child}
 use Rattle.gtfs_runs.specs.steps.AtStops.{departs_of, leaves_stop}
 use Rattle.gtfs_runs.specs.steps.Passings.{leaves}
-use Rattle.gtfs_runs.specs.steps.Places.{ArePlaceRows, departs_in_place, first_trip}
+use Rattle.gtfs_runs.specs.steps.Places.{AreOfPlace, ArePlaceRows, departs_in_place, first_trip, number_cmp}
 use Rattle.gtfs_runs.proofs.ChildFacts.{child_of}
 use Rattle.gtfs_runs.proofs.ContentEvents.{past_trips, row_at}
 use Rattle.gtfs_runs.proofs.ContentRows.{flag_at}
@@ -56,8 +54,7 @@ use Rattle.gtfs_runs.proofs.IndexFacts.{any_kept}
 use Rattle.gtfs_runs.proofs.LaneTallies.{tally-nothing}
 use Rattle.gtfs_runs.proofs.NumberParts.{first_run}
 use Rattle.gtfs_runs.proofs.PlaceFacts.{place_at}
-use Rattle.gtfs_runs.proofs.Ranks.{parted_tally}
-use Rattle.gtfs_runs.proofs.Tallies.{any-tally, tally-append, tally-none, tally-permutation, tally-push, tally-same, two_at}
+use Rattle.gtfs_runs.proofs.Tallies.{any-tally, tally-none, tally-permutation, tally-same, one_at}
 
 -- ---- what is asked of a stop time
 
@@ -87,10 +84,13 @@ place_within p s t r holds = elim (cases_Bool (nat_lt t (length p.trips))) [
 
 -- ---- the order of departure rows
 
+numbers_total : IsTotalOrder number_cmp
+numbers_total = search (comparing, rules) depth 20
+
 row_itself : (x : DepartureRow) → is_this_row x.trip x.row x ≡ true
 row_itself x = both_true (itself x.trip) (itself x.row)
 
-tied : (x y : DepartureRow) → departure_row_cmp x y ≡ Equal → is_this_row x.trip x.row y ≡ true
+tied : (x y : DepartureRow) → number_cmp x y ≡ Equal → is_this_row x.trip x.row y ≡ true
 tied x y tie =
     let trips : x.trip ≡ y.trip = ranked x.trip y.trip Equal (sym (first_tie _ _ tie)) in
     let rows : x.row ≡ y.row = ranked x.row y.row Equal (sym (second_tie _ _ tie)) in
@@ -101,21 +101,90 @@ less_if_apart Less q turned far apart = refl
 less_if_apart Equal q turned far apart = absurd (apart refl)
 less_if_apart Greater q turned far apart = absurd (false≢true (sym far ∙ ap is_lt turned))
 
--- sorted ones of which each stands there once
-rows_ascend : (xs : List DepartureRow) → IsSorted departure_row_cmp xs → ((t r : ℕ) → tally (is_this_row t r) xs ≤ 1) → Ascends departure_row_cmp xs
-rows_ascend xs up once i j d before within =
-    let a = get_or xs i d in
-    let b = get_or xs j d in
-    less_if_apart (departure_row_cmp a b) (departure_row_cmp b a) (rows_total.antisymm b a)
-    (sorted_far (λ x y. is_lt (departure_row_cmp x y)) (ranks_by rows_total (λ x. x)) xs up i j d (omega arith) within)
-    (λ tie. twice (tally (is_this_row a.trip a.row) xs) (two_at (is_this_row a.trip a.row) xs i j d before within (row_itself a) (tied a b tie)) (once a.trip a.row))
+abbrev insert : DepartureRow → List DepartureRow → List DepartureRow
+insert x [] = x ∷ []
+insert x (y ∷ ys) = cond (is_lt (number_cmp y x)) (y ∷ insert x ys) (x ∷ y ∷ ys)
+
+-- rows by number
+abbrev pub by_number : List DepartureRow → List DepartureRow
+by_number [] = []
+by_number (x ∷ xs) = insert x (by_number xs)
+
+inserted : (x : DepartureRow) (ys : List DepartureRow) → IsPermutation (x ∷ ys) (insert x ys)
+inserted x [] = IsPermutation-refl (x ∷ [])
+inserted x (y ∷ ys) = elim (cases_Bool (is_lt (number_cmp y x))) [
+  | inl lower ↦ rw lower (IsPermutation-trans (x ∷ y ∷ ys) (y ∷ x ∷ ys) (y ∷ insert x ys) (IsPermutation-middle (x ∷ []) y ys) (IsPermutation-cons y (x ∷ ys) (insert x ys) (inserted x ys)))
+  | inr upper ↦ rw upper (IsPermutation-refl (x ∷ y ∷ ys))
+]
+
+pub numbered : (xs : List DepartureRow) → IsPermutation xs (by_number xs)
+numbered [] = IsPermutation-refl []
+numbered (x ∷ xs) =
+    IsPermutation-trans (x ∷ xs) (x ∷ by_number xs) (insert x (by_number xs)) (IsPermutation-cons x xs (by_number xs) (numbered xs)) (inserted x (by_number xs))
+
+-- those of them that pass a test
+filter_inserted : (q : DepartureRow → Bool) (x : DepartureRow) (ys : List DepartureRow) → IsPermutation (filter q (x ∷ ys)) (filter q (insert x ys))
+filter_inserted q x [] = IsPermutation-refl (filter q (x ∷ []))
+filter_inserted q x (y ∷ ys) = elim (cases_Bool (is_lt (number_cmp y x))) [
+  | inl lower ↦ rw lower (IsPermutation-trans (filter q (x ∷ y ∷ ys)) (filter q (y ∷ x ∷ ys)) (filter q (y ∷ insert x ys)) (swapped (q x) (q y) (filter q ys)) (more (q y) (filter q (x ∷ ys)) (filter q (insert x ys)) (filter_inserted q x ys)))
+  | inr upper ↦ rw upper (IsPermutation-refl (filter q (x ∷ y ∷ ys)))
+]
   where
-    twice : (n : ℕ) → 2 ≤ n → n ≤ 1 → ⊥
-    twice n two one = omega arith
+    swapped : (a b : Bool) (zs : List DepartureRow) → IsPermutation (cond a (x ∷ cond b (y ∷ zs) zs) (cond b (y ∷ zs) zs)) (cond b (y ∷ cond a (x ∷ zs) zs) (cond a (x ∷ zs) zs))
+    swapped true true zs = IsPermutation-middle (x ∷ []) y zs
+    swapped true false zs = IsPermutation-refl (x ∷ zs)
+    swapped false true zs = IsPermutation-refl (y ∷ zs)
+    swapped false false zs = IsPermutation-refl zs
+
+    more : (b : Bool) (us vs : List DepartureRow) → IsPermutation us vs → IsPermutation (cond b (y ∷ us) us) (cond b (y ∷ vs) vs)
+    more true us vs same = IsPermutation-cons y us vs same
+    more false us vs same = same
+
+pub kept_numbered : (q : DepartureRow → Bool) (xs : List DepartureRow) → IsPermutation (filter q xs) (filter q (by_number xs))
+kept_numbered q [] = IsPermutation-refl []
+kept_numbered q (x ∷ xs) = IsPermutation-trans (filter q (x ∷ xs)) (filter q (x ∷ by_number xs)) (filter q (insert x (by_number xs))) (more (q x) (kept_numbered q xs)) (filter_inserted q x (by_number xs))
+  where
+    more : (b : Bool) → IsPermutation (filter q xs) (filter q (by_number xs)) → IsPermutation (cond b (x ∷ filter q xs) (filter q xs)) (cond b (x ∷ filter q (by_number xs)) (filter q (by_number xs)))
+    more true same = IsPermutation-cons x (filter q xs) (filter q (by_number xs)) same
+    more false same = same
+
+abbrev Rises : DepartureRow → DepartureRow → Type 0
+Rises x y = number_cmp x y ≡ Less
+
+insert_up : (x : DepartureRow) (ys : List DepartureRow) → All (λ y. is_this_row x.trip x.row y ≡ false) ys → Ascends number_cmp ys → Ascends number_cmp (insert x ys)
+insert_up x [] apart up = AllPairs-cons Rises x [] (All-nil (Rises x)) up
+insert_up x (y ∷ ys) apart up = elim (cases_Bool (is_lt (number_cmp y x))) [
+  | inl lower ↦
+      rw lower (AllPairs-cons Rises y (insert x ys) (All-permutation (Rises y) (x ∷ ys) (insert x ys) (inserted x ys) (All-cons (Rises y) x ys (is_less (number_cmp y x) lower) (pairs-head Rises y ys up)))
+      (insert_up x ys (All-tail (λ z. is_this_row x.trip x.row z ≡ false) y ys apart) (pairs-tail Rises y ys up)))
+  | inr upper ↦
+      let first : Rises x y = less_if_apart (number_cmp x y) (number_cmp y x) (numbers_total.antisymm y x) upper
+      (λ tie. false≢true (sym (All-head (λ z. is_this_row x.trip x.row z ≡ false) y ys apart) ∙ tied x y tie)) in
+      rw upper (AllPairs-cons Rises x (y ∷ ys) (All-cons (Rises x) y ys first (λ k d within. numbers_total.trans x y (get_or ys k d) first (pairs-head Rises y ys up k d within))) up)
+]
+
+-- of which each stands there once
+ascending : (xs : List DepartureRow) → ((t r : ℕ) → tally (is_this_row t r) xs ≤ 1) → Ascends number_cmp (by_number xs)
+ascending [] once = λ i j d before within. absurd (omega arith)
+ascending (x ∷ xs) once =
+    insert_up x (by_number xs) (All-permutation (λ y. is_this_row x.trip x.row y ≡ false) xs (by_number xs) (numbered xs) apart)
+    (ascending xs (λ t r. less (is_this_row t r x) (tally (is_this_row t r) xs) (once t r)))
+  where
+    less : (b : Bool) (n : ℕ) → cond b 1 0 + n ≤ 1 → n ≤ 1
+    less b n most = omega (arith, most)
+
+    both : (b : Bool) (n : ℕ) → b ≡ true → cond b 1 0 + n ≤ 1 → 1 ≤ n → ⊥
+    both b n is most some = let one : ◌≡◌ {A = ℕ} (cond b 1 0) 1 = ap (λ c. cond c 1 0) is in omega (arith, one, most, some)
+
+    apart : All (λ y. is_this_row x.trip x.row y ≡ false) xs
+    apart k d within = elim (cases_Bool (is_this_row x.trip x.row (get_or xs k d))) [
+      | inr other ↦ other
+      | inl same ↦ absurd (both (is_this_row x.trip x.row x) (tally (is_this_row x.trip x.row) xs) (row_itself x) (once x.trip x.row) (one_at (is_this_row x.trip x.row) xs k d within same))
+    ]
 
 -- in ascending ones each stands once
-not_again : (x y : DepartureRow) → departure_row_cmp x y ≡ Less → (t r : ℕ) → is_this_row t r x ≡ true → is_this_row t r y ≡ false
-not_again x y less t r is = elim (cases_Bool (is_this_row t r y)) [
+not_again : (p : Parts) (x y : DepartureRow) → departure_row_cmp p x y ≡ Less → (t r : ℕ) → is_this_row t r x ≡ true → is_this_row t r y ≡ false
+not_again p x y less t r is = elim (cases_Bool (is_this_row t r y)) [
   | inr isnt ↦ isnt
   | inl also ↦
       let a = and_parts (t == x.trip) (r == x.row) is in
@@ -128,19 +197,17 @@ not_again x y less t r is = elim (cases_Bool (is_this_row t r y)) [
     never : Equal ≡ Less → ⊥
     never same = false≢true (ap is_lt same)
 
-    same_row : x.trip ≡ y.trip → x.row ≡ y.row → departure_row_cmp x y ≡ Equal
-    same_row trips rows =
-        (λ i. ordering_then (nat_cmp (trips i) y.trip) (nat_cmp (rows i) y.row))
-        ∙ (λ i. ordering_then (tied_itself nat_cmp_total y.trip i) (tied_itself nat_cmp_total y.row i))
+    same_row : x.trip ≡ y.trip → x.row ≡ y.row → departure_row_cmp p x y ≡ Equal
+    same_row trips rows = (λ i. ordering_then (index_trip_cmp p (trips i) y.trip) (nat_cmp (rows i) y.row)) ∙ tied_itself (rows_total p) y
 
-pub once : (xs : List DepartureRow) (t r : ℕ) → Ascends departure_row_cmp xs → tally (is_this_row t r) xs ≡ cond (list_any (is_this_row t r) xs) 1 0
-once [] t r up = refl
-once (x ∷ xs) t r up = elim (cases_Bool (is_this_row t r x)) [
+once : (p : Parts) (xs : List DepartureRow) (t r : ℕ) → Ascends (departure_row_cmp p) xs → tally (is_this_row t r) xs ≡ cond (list_any (is_this_row t r) xs) 1 0
+once p [] t r up = refl
+once p (x ∷ xs) t r up = elim (cases_Bool (is_this_row t r x)) [
   | inl is ↦
-      let above = pairs-head (λ a b. departure_row_cmp a b ≡ Less) x xs up in
-      let none : tally (is_this_row t r) xs ≡ 0 = tally-none (is_this_row t r) xs (λ k d within. not_again x (get_or xs k d) (above k d within) t r is) in
+      let above = pairs-head (λ a b. departure_row_cmp p a b ≡ Less) x xs up in
+      let none : tally (is_this_row t r) xs ≡ 0 = tally-none (is_this_row t r) xs (λ k d within. not_again p x (get_or xs k d) (above k d within) t r is) in
       rw (is, none) refl
-  | inr isnt ↦ rw isnt (ap (λ n. 0 + n) (once xs t r (pairs-tail (λ a b. departure_row_cmp a b ≡ Less) x xs up)) ∙ nothing (cond (list_any (is_this_row t r) xs) 1 0))
+  | inr isnt ↦ rw isnt (ap (λ n. 0 + n) (once p xs t r (pairs-tail (λ a b. departure_row_cmp p a b ≡ Less) x xs up)) ∙ nothing (cond (list_any (is_this_row t r) xs) 1 0))
 ]
   where
     nothing : (n : ℕ) → 0 + n ≡ n
@@ -156,21 +223,10 @@ told_at choice p sound index are s t r xs within at =
     let id = text_of_number (stop_ids p) s in
     let there = slice_get_within index s xs at in
     let known : nat_lt s (length p.stops) ≡ true = lt-ltb s (length p.stops) within in
-    once xs t r (subst (Ascends departure_row_cmp) (get_or_from_slice_get index s xs xs at) (are.in_order s xs there))
+    once p xs t r (subst (Ascends (departure_row_cmp p)) (get_or_from_slice_get index s xs xs at) (are.in_order s xs there))
     ∙ ap (λ l. cond (list_any (is_this_row t r) l) 1 0) (sym (get_or_from_slice_get index s xs [] at))
     ∙ ap (λ b. cond b 1 0)
     (are.all s t r within ∙ ap (λ c. has_departure_row c id t r) (sym (content-timed choice p sound)) ∙ ap (λ b. b && has_departure_row (content_of_parts q) id t r) (sym known))
-
--- those of each child
-pub children_more : {X Y : Type 0} (f : Y → Bool) (q : X → Bool) (a k : ℕ) (y : Y) (old new xs : List X) (ys : List Y) → k < length ys → y ≡ get_or ys k y
-    → tally q old ≡ a + tally f (take k ys) → new ≡ old ++ xs → tally q xs ≡ cond (f y) 1 0 → tally q new ≡ a + tally f (take (k + 1) ys)
-children_more f q a k y old new xs ys within item so_far pushed told =
-    rw (add-one, take-suc ys k y within)
-    (ap (tally q) pushed ∙ tally-append q old xs ∙ (λ i. so_far i + (told ∙ ap (λ z. cond (f z) 1 0) item) i) ∙ assoc a (tally f (take k ys)) (cond (f (get_or ys k y)) 1 0)
-    ∙ ap (λ n. a + n) (sym (tally-push f (take k ys) (get_or ys k y))))
-  where
-    assoc : (l m n : ℕ) → l + m + n ≡ l + (m + n)
-    assoc l m n = omega arith
 
 -- a stop time is at the place where it is at the stop, or at a child
 one_place : (a b e : Bool) → cond a 1 0 + cond (b && not a && e) 1 0 ≡ cond (a || (b && e)) 1 0
@@ -241,20 +297,14 @@ module _ (p : Parts) (sound : IsSoundParts p) (s : ℕ) (within : s < length p.s
       refuted true never = absurd (never refl)
       refuted false never = refl
 
--- all of them, in order
-pub rows-in-order : (p : Parts) (s : ℕ) (rows : List DepartureRow) → ((t r : ℕ) → tally (is_this_row t r) rows ≡ cond (departs_in_place p s t r) 1 0) → Ascends departure_row_cmp rows
-    → ArePlaceRows p s 0 rows
-rows-in-order p s rows told up = record {
-  in_order = up;
-  all = λ t r. any-tally (is_this_row t r) rows (departs_in_place p s t r) (told t r) ∙ ap (λ b. b && departs_in_place p s t r) (sym (le-leb 0 t (omega arith)));
+-- all of them, by number
+pub by-number : (p : Parts) (s : ℕ) (rows : List DepartureRow) → AreOfPlace p s rows → ArePlaceRows p s 0 (by_number rows)
+by-number p s rows told = record {
+  in_order = ascending rows (λ t r. most (departs_in_place p s t r) (tally (is_this_row t r) rows) (told t r));
+  all = λ t r.
+      any-tally (is_this_row t r) (by_number rows) (departs_in_place p s t r) (tally-permutation (is_this_row t r) rows (by_number rows) (numbered rows) ∙ told t r)
+      ∙ ap (λ b. b && departs_in_place p s t r) (sym (le-leb 0 t (omega arith)));
 }
-
--- and sorted
-pub are-place-rows : (p : Parts) (s : ℕ) (found sorted : List DepartureRow) → ((t r : ℕ) → tally (is_this_row t r) found ≡ cond (departs_in_place p s t r) 1 0)
-    → IsPermutation found sorted → IsSorted departure_row_cmp sorted → ArePlaceRows p s 0 sorted
-are-place-rows p s found sorted told same up =
-    let every : (t r : ℕ) → tally (is_this_row t r) sorted ≡ cond (departs_in_place p s t r) 1 0 = λ t r. tally-permutation (is_this_row t r) found sorted same ∙ told t r in
-    rows-in-order p s sorted every (rows_ascend sorted up (λ t r. most (departs_in_place p s t r) (tally (is_this_row t r) sorted) (every t r)))
   where
     most : (b : Bool) (n : ℕ) → n ≡ cond b 1 0 → n ≤ 1
     most true n is = omega (arith, is)
@@ -262,55 +312,19 @@ are-place-rows p s found sorted told same up =
 
 -- ---- cut by trip
 
-pub trips_rise : (xs : List DepartureRow) → Ascends departure_row_cmp xs → (i j : ℕ) (d : DepartureRow) → i < j → j < length xs → (get_or xs i d).trip ≤ (get_or xs j d).trip
+pub trips_rise : (xs : List DepartureRow) → Ascends number_cmp xs → (i j : ℕ) (d : DepartureRow) → i < j → j < length xs → (get_or xs i d).trip ≤ (get_or xs j d).trip
 trips_rise xs up i j d before within =
     let x = get_or xs i d in
     let y = get_or xs j d in
     first_at_most x.trip y.trip (nat_cmp x.row y.row) (up i j d before within)
 
-pub first_is : (n : ℕ) (xs : List DepartureRow) (d : DepartureRow) → 0 < length xs → first_trip n xs ≡ (get_or xs 0 d).trip
-first_is n [] d some = absurd (omega arith)
-first_is n (x ∷ xs) d some = refl
-
 -- no trip comes before that of the first
-pub first_lowest : (n : ℕ) (xs : List DepartureRow) → Ascends departure_row_cmp xs → All (λ x. first_trip n xs ≤ x.trip) xs
+pub first_lowest : (n : ℕ) (xs : List DepartureRow) → Ascends number_cmp xs → All (λ x. first_trip n xs ≤ x.trip) xs
 first_lowest n [] up k d within = absurd (omega arith)
 first_lowest n (x ∷ xs) up zero d within = omega arith
 first_lowest n (x ∷ xs) up (suc k) d within = trips_rise (x ∷ xs) up 0 (suc k) d (omega arith) within
 
--- those of the first trip come first
-pub first_parted : (xs : List DepartureRow) (t : ℕ) → Ascends departure_row_cmp xs → All (λ x. t ≤ x.trip) xs → IsPartitionedBy (λ x. x.trip == t) xs
-first_parted xs t up from i j d before within is = elim (cases_Bool (nat_lt i j)) [
-  | inl lower ↦
-      let rise = trips_rise xs up i j d (ltb-true i j lower) within in
-      let low = from i d (omega (arith, before, within)) in
-      let here = eqb-true (get_or xs j d).trip t is in
-      let same : (get_or xs i d).trip ≡ t = omega (arith, rise, low, here) in
-      ap (λ n. n == t) same ∙ itself t
-  | inr not_lower ↦ let same : i ≡ j = omega (arith, before, ltb-false i j not_lower) in ap (λ k. (get_or xs k d).trip == t) same ∙ is
-]
-
-pub one_row_more : (xs : List DepartureRow) (n t : ℕ) (e : DepartureRow) → n < length xs → (get_or xs n e).trip ≡ t → ((k : ℕ) (d : DepartureRow) → k < n → (get_or xs k d).trip ≡ t)
-    → (k : ℕ) (d : DepartureRow) → k < n + 1 → (get_or xs k d).trip ≡ t
-one_row_more xs n t e within is so_far k d below = elim (cases_Bool (nat_lt k n)) [
-  | inl low ↦ so_far k d (ltb-true k n low)
-  | inr high ↦ let last : k ≡ n = omega (arith, ltb-false k n high, below) in ap (λ m. (get_or xs m d).trip) last ∙ ap (λ x. x.trip) (get_or_default xs n d e within) ∙ is
-]
-
--- those before the first of another trip are all
-pub first_ones : (xs : List DepartureRow) (n t : ℕ) → Ascends departure_row_cmp xs → All (λ x. t ≤ x.trip) xs → n ≤ length xs → ((k : ℕ) (d : DepartureRow) → k < n → (get_or xs k d).trip ≡ t)
-    → ((d : DepartureRow) → n < length xs → ((get_or xs n d).trip == t) ≡ false) → n ≡ tally (λ x. x.trip == t) xs
-first_ones xs n t up from upto own ends = parted_tally (λ x. x.trip == t) xs n upto
-    (λ k d low high. ap (λ m. m == t) (own k d high) ∙ itself t)
-    (λ k d low high. elim (cases_Bool ((get_or xs k d).trip == t)) [
-      | inr other ↦ other
-      | inl is ↦ absurd (true≢false (sym (first_parted xs t up from n k d low high is) ∙ ends d (omega (arith, low, high))))
-    ])
-
-pub other_trip : (xs : List DepartureRow) (n t : ℕ) (e d : DepartureRow) → n < length xs → ((get_or xs n e).trip ≡ t → ⊥) → ((get_or xs n d).trip == t) ≡ false
-other_trip xs n t e d within apart = ne_eqb (get_or xs n d).trip t (λ same. apart (ap (λ x. x.trip) (get_or_default xs n e d within) ∙ same))
-
--- and there is one of them
+-- and there is one of the first trip
 pub first_counted : (n : ℕ) (xs : List DepartureRow) (t : ℕ) → first_trip n xs ≡ t → 0 < length xs → 0 < tally (λ x. x.trip == t) xs
 first_counted n [] t is some = absurd (omega arith)
 first_counted n (x ∷ xs) t is some = let here : (x.trip == t) ≡ true = ap (λ k. k == t) is ∙ itself t in rw here (omega arith)
@@ -371,8 +385,8 @@ module _ (p : Parts) (s t n : ℕ) (xs : List DepartureRow) (are : ArePlaceRows 
   cut : (take n xs ≡ filter (λ x. x.trip == t) xs) × (drop n xs ≡ filter (λ x. not (x.trip == t)) xs)
   cut = subst (λ m. (take m xs ≡ filter (λ x. x.trip == t) xs) × (drop m xs ≡ filter (λ x. not (x.trip == t)) xs)) (sym is) (first_run (λ x. x.trip) xs t (trips_rise xs are.in_order) low)
 
-  pub own_up : Ascends departure_row_cmp (take n xs)
-  own_up = subst (Ascends departure_row_cmp) (sym cut.0) (AllPairs-filter (λ x y. departure_row_cmp x y ≡ Less) (λ x. x.trip == t) xs are.in_order)
+  pub own_up : Ascends number_cmp (take n xs)
+  own_up = subst (Ascends number_cmp) (sym cut.0) (AllPairs-filter (λ x y. number_cmp x y ≡ Less) (λ x. x.trip == t) xs are.in_order)
 
   pub own_trip : All (λ x. x.trip ≡ t) (take n xs)
   own_trip = subst (All (λ x. x.trip ≡ t)) (sym cut.0) (kept_pass xs)
@@ -391,7 +405,7 @@ module _ (p : Parts) (s t n : ℕ) (xs : List DepartureRow) (are : ArePlaceRows 
 
   pub left_rows : ArePlaceRows p s (t + 1) (drop n xs)
   left_rows = record {
-    in_order = subst (Ascends departure_row_cmp) (sym cut.1) (AllPairs-filter (λ x y. departure_row_cmp x y ≡ Less) (λ x. not (x.trip == t)) xs are.in_order);
+    in_order = subst (Ascends number_cmp) (sym cut.1) (AllPairs-filter (λ x y. number_cmp x y ≡ Less) (λ x. not (x.trip == t)) xs are.in_order);
     all = λ v r.
         ap (list_any (is_this_row v r)) cut.1 ∙ any_kept (is_this_row v r) (λ x. not (x.trip == t)) xs
         ∙ elim (cases_Bool (v == t)) [

@@ -2,6 +2,7 @@
 use Rattle.std.proofs.Common.{◌≡◌, ◌≤◌, ◌<◌, ◌+◌, ◌*◌, ◌-◌, ◌++◌, ◌∙◌, ℕ, zero, suc, Bool, true, false, not, cond, List, [], ◌∷◌, length, map, filter, take, get_or, Option, Some, None, refl, sym, ap, subst, arith, inl, inr, ◌&&◌, ◌==◌, zero-add}
 use Rattle.std.specs.Prelude.{is_some, option_map, unwrap_or}
 use Rattle.std.specs.List.{All, enumerate_from, flat_map, list_any, slice_get}
+use Rattle.std.specs.List.Sorted.{IsPermutation}
 use Rattle.std.specs.Cmp.{both_ways}
 use Rattle.std.specs.Cmp.Derive.{both_true}
 use Rattle.std.proofs.lemmas.Bool.{and_parts, cases_Bool, eq-eqb as equal_holds, eqb-true}
@@ -9,6 +10,7 @@ use Rattle.std.proofs.lemmas.Bool.Decides.{nat_tests}
 use Rattle.std.proofs.lemmas.Grind.{flat_map-append}
 use Rattle.std.proofs.lemmas.List.{append-nil, length-append, length-map, map-append, take_more as taken}
 use Rattle.std.proofs.lemmas.List.Elements.{All-append, All-map, filter-append}
+use Rattle.std.proofs.lemmas.List.Sorted.{IsPermutation-append, IsPermutation-refl}
 use Rattle.std.proofs.lemmas.Option.{get_or_from_slice_get, slice_get_within}
 use Rattle.std.proofs.lemmas.Simd.{map-map}
 use Rattle.gtfs_columns.specs.Values.{if_there}
@@ -34,7 +36,7 @@ use Rattle.gtfs_runs.specs.declared.event.Event.{Event}
 use Rattle.gtfs_runs.specs.declared.stop_lanes.passing.Passing.{Passing}
 use Rattle.gtfs_runs.specs.steps.Courses.{IsCourse, IsListed, Stopping, course_of, stopping_events}
 use Rattle.gtfs_runs.specs.steps.Groups.{stops_in}
-use Rattle.gtfs_runs.specs.steps.Finds.{AreFound, stopping_at, times_found, times_passed_in, times_told}
+use Rattle.gtfs_runs.specs.steps.Finds.{AreFound, AreTold, stopping_at, times_passed_in, times_told}
 use Rattle.gtfs_runs.specs.steps.Passings.{first_left, leaves, passing_at, passing_event, passings_of}
 use Rattle.gtfs_runs.proofs.ContentEvents.{event_is, is_at}
 use Rattle.gtfs_runs.proofs.ContentRows.{departure_rows_are, own_run, period_run}
@@ -302,9 +304,9 @@ module _ (p : Parts) (sound : IsSoundParts p) (s t : ℕ) (row : Trip) (rs : Lis
           course = ap (option_map (λ w. (stops_of w, x.row, w.service_id))) at ∙ ap (λ l. Some (l, x.row, text_of_number (service_ids p) row.service_id.0)) (sym stops_are);
         }
 
-    pub listed_found : (old new : List Stopping) (ps : List LaneValue) → new ≡ old ++ map (stopping_at (stops_in rs) row.service_id.0 t (first_left rs)) (passings_of p s row rs [])
-        → AreFound p s t old ps → AreFound p s (t + 1) new ps
-    listed_found old new ps pushed was =
+    pub listed_told : (old new : List Stopping) (told : ℕ → Event → ℕ) (count : ℕ) → new ≡ old ++ map (stopping_at (stops_in rs) row.service_id.0 t (first_left rs)) (passings_of p s row rs [])
+        → AreTold p s t old told count → AreTold p s (t + 1) new told count
+    listed_told old new told count pushed was =
         let c = content_of_parts p in
         let id = text_of_number (stop_ids p) s in
         let v = trip_of p row rs [] in
@@ -313,9 +315,9 @@ module _ (p : Parts) (sound : IsSoundParts p) (s t : ℕ) (row : Trip) (rs : Lis
         let at : slice_get c.trips t ≡ Some v = content_trip p t row rs [] at_trip at_rows at_periods in
         record {
           exact = λ k e within.
-              ap (λ l. times_found k e l ps) pushed
-              ∙ ap (λ n. n + times_told k e ps) (ap (tally (is_same e)) (stopping-append k old (map f xs)) ∙ tally-append (is_same e) (stopping_events k old) (stopping_events k (map f xs)))
-              ∙ swap (tally (is_same e) (stopping_events k old)) (tally (is_same e) (stopping_events k (map f xs))) (times_told k e ps)
+              ap (λ l. tally (is_same e) (stopping_events k l) + told k e) pushed
+              ∙ ap (λ n. n + told k e) (ap (tally (is_same e)) (stopping-append k old (map f xs)) ∙ tally-append (is_same e) (stopping_events k old) (stopping_events k (map f xs)))
+              ∙ swap (tally (is_same e) (stopping_events k old)) (tally (is_same e) (stopping_events k (map f xs))) (told k e)
               ∙ (λ i. was.exact k e within i + (own_times (stops_in rs) row.service_id.0 t (first_left rs) k e xs ∙ listed_delta k e within) i)
               ∙ one_more_below e.trip.0 t (ev p sound s t row rs [] at_trip at_rows at_periods k e);
           known = subst (λ l. All (λ x. IsCourse p x.course) l) (sym pushed)
@@ -324,15 +326,26 @@ module _ (p : Parts) (sound : IsSoundParts p) (s t : ℕ) (row : Trip) (rs : Lis
                 stops = All-map (λ n. n < length p.stops) (λ r. r.stop_id.0) rs (stop_times p sound t rs at_rows).stops;
               })));
           own = subst (λ l. All (IsListed p) l) (sym pushed) (All-append (IsListed p) old (map f xs) was.own (All-map (IsListed p) f xs (λ k d h. own_course (get_or xs k d))));
-          within = was.within;
-          runs = was.runs;
-          courses = ap (map (λ x. course_of p x.course)) pushed ∙ map-append (λ x. course_of p x.course) old (map f xs) ∙ (λ i. was.courses i ++ courses_are i)
-              ∙ sym (trips_more (λ w. not (has_periods w)) (courses_of c id) c.trips t v at);
+          courses =
+              let few = flat_map (courses_of c id) (filter (λ w. not (has_periods w)) (take t c.trips)) in
+              let now : map (λ x. course_of p x.course) new ≡ map (λ x. course_of p x.course) old ++ courses_of c id v =
+              ap (map (λ x. course_of p x.course)) pushed ∙ map-append (λ x. course_of p x.course) old (map f xs) ∙ ap (λ l. map (λ x. course_of p x.course) old ++ l) courses_are in
+              subst (IsPermutation (flat_map (courses_of c id) (filter (λ w. not (has_periods w)) (take (t + 1) c.trips)))) (sym now)
+              (subst (λ l. IsPermutation l (map (λ x. course_of p x.course) old ++ courses_of c id v)) (sym (trips_more (λ w. not (has_periods w)) (courses_of c id) c.trips t v at))
+              (IsPermutation-append few (map (λ x. course_of p x.course) old) (courses_of c id v) (courses_of c id v) was.courses (IsPermutation-refl (courses_of c id v))));
           counted = was.counted ∙ ap length (sym (trips_more has_periods (λ w. flat_map (λ period. departure_rows c id w) w.frequencies) c.trips t v at ∙ append-nil _));
         }
       where
         swap : (a b m : ℕ) → a + b + m ≡ a + m + b
         swap a b m = omega arith
+
+    pub listed_found : (old new : List Stopping) (ps : List LaneValue) → new ≡ old ++ map (stopping_at (stops_in rs) row.service_id.0 t (first_left rs)) (passings_of p s row rs [])
+        → AreFound p s t old ps → AreFound p s (t + 1) new ps
+    listed_found old new ps pushed was = record {
+      told = listed_told old new (λ k e. times_told k e ps) (length ps) pushed was.told;
+      within = was.within;
+      runs = was.runs;
+    }
 
 -- ---- the lanes of the frequencies of a trip
 
@@ -415,13 +428,11 @@ module _ (p : Parts) (sound : IsSoundParts p) (s t : ℕ) (row : Trip) (rs : Lis
       never true = refl
       never false = refl
 
-  pub periods_found : (listed : List Stopping) (old new : List LaneValue)
-      → ((k : ℕ) (e : Event) → times_told k e new ≡ times_told k e old + cond (row.service_id.0 == k) (times_passed_in t e (passings_of p s row rs fs) fs) 0)
-      → length new ≡ length old + length fs * length (passings_of p s row rs fs)
-      → ((n : ℕ) → row.service_id.0 < n → All (λ lane. lane.service < n) old → All (λ lane. lane.service < n) new)
-      → ((k : Content) (v : content.Trip) → slice_get k.trips t ≡ Some v → v.frequencies ≡ map frequency_of fs → All (IsPeriodLane k) old → All (IsPeriodLane k) new)
-      → AreFound p s t listed old → AreFound p s (t + 1) listed new
-  periods_found listed old new told count serve kind was =
+  pub periods_told : (listed : List Stopping) (old new : ℕ → Event → ℕ) (before after : ℕ)
+      → ((k : ℕ) (e : Event) → new k e ≡ old k e + cond (row.service_id.0 == k) (times_passed_in t e (passings_of p s row rs fs) fs) 0)
+      → after ≡ before + length fs * length (passings_of p s row rs fs)
+      → AreTold p s t listed old before → AreTold p s (t + 1) listed new after
+  periods_told listed old new before after told count was =
       let c = content_of_parts p in
       let id = text_of_number (stop_ids p) s in
       let v = trip_of p row rs fs in
@@ -437,18 +448,28 @@ module _ (p : Parts) (sound : IsSoundParts p) (s t : ℕ) (row : Trip) (rs : Lis
       record {
         exact = λ k e within.
             ap (λ n. tally (is_same e) (stopping_events k listed) + n) (told k e)
-            ∙ sums (tally (is_same e) (stopping_events k listed)) (times_told k e old) (cond (row.service_id.0 == k) (times_passed_in t e xs fs) 0)
+            ∙ sums (tally (is_same e) (stopping_events k listed)) (old k e) (cond (row.service_id.0 == k) (times_passed_in t e xs fs) 0)
             ∙ (λ i. was.exact k e within i + periods_delta k e within i)
             ∙ one_more_below e.trip.0 t (ev p sound s t row rs fs at_trip at_rows at_periods k e);
         known = was.known;
         own = was.own;
-        within = serve (length p.services) (trip_service p sound t row at_trip) was.within;
-        runs = kind c v at refl was.runs;
-        courses = was.courses ∙ sym (trips_more (λ w. not (has_periods w)) (courses_of c id) c.trips t v at
-            ∙ ap (λ b. flat_map (courses_of c id) (filter (λ w. not (has_periods w)) (take t c.trips)) ++ cond (not b) (courses_of c id v) []) has ∙ append-nil _);
+        courses = subst (λ l. IsPermutation l (map (λ x. course_of p x.course) listed)) (sym (trips_more (λ w. not (has_periods w)) (courses_of c id) c.trips t v at
+            ∙ ap (λ b. flat_map (courses_of c id) (filter (λ w. not (has_periods w)) (take t c.trips)) ++ cond (not b) (courses_of c id v) []) has ∙ append-nil _)) was.courses;
         counted = count ∙ (λ i. was.counted i + sym each i) ∙ sym (length-append (flat_map group (filter has_periods (take t c.trips))) (group v))
             ∙ ap length (sym (trips_more has_periods group c.trips t v at ∙ ap (λ b. flat_map group (filter has_periods (take t c.trips)) ++ cond b (group v) []) has));
       }
     where
       sums : (a b m : ℕ) → a + (b + m) ≡ a + b + m
       sums a b m = omega arith
+
+  pub periods_found : (listed : List Stopping) (old new : List LaneValue)
+      → ((k : ℕ) (e : Event) → times_told k e new ≡ times_told k e old + cond (row.service_id.0 == k) (times_passed_in t e (passings_of p s row rs fs) fs) 0)
+      → length new ≡ length old + length fs * length (passings_of p s row rs fs)
+      → ((n : ℕ) → row.service_id.0 < n → All (λ lane. lane.service < n) old → All (λ lane. lane.service < n) new)
+      → ((k : Content) (v : content.Trip) → slice_get k.trips t ≡ Some v → v.frequencies ≡ map frequency_of fs → All (IsPeriodLane k) old → All (IsPeriodLane k) new)
+      → AreFound p s t listed old → AreFound p s (t + 1) listed new
+  periods_found listed old new told count serve kind was = record {
+    told = periods_told listed (λ k e. times_told k e old) (λ k e. times_told k e new) (length old) (length new) told count was.told;
+    within = serve (length p.services) (trip_service p sound t row at_trip) was.within;
+    runs = kind (content_of_parts p) (trip_of p row rs fs) (content_trip p t row rs fs at_trip at_rows at_periods) refl was.runs;
+  }

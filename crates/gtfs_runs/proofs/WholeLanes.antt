@@ -4,14 +4,13 @@ use Rattle.std.specs.List.{All, flat_map}
 use Rattle.std.specs.List.Sorted.{IsPermutation, IsSorted}
 use Rattle.std.specs.Cmp.Derive.{both_true}
 use Rattle.std.specs.FinMap.{nat_cmp-IsAntisymmetric}
-use Rattle.std.specs.FinSet as set
 use Rattle.std.specs.declared.cmp.Ordering.{Ordering}
 use Rattle.std.specs.declared.cmp.Ordering.TheVariants.{Less, Equal, Greater}
 use Rattle.std.specs.Ordering.{eq_by_cmp, is_eq, is_lt, ordering_reverse}
 use Rattle.std.proofs.lemmas.Bool.{cases_Bool, ltb-false, true≢false}
 use Rattle.std.proofs.lemmas.List.{length-append, length-map, take_all as all_taken}
 use Rattle.std.proofs.lemmas.List.Elements.{All-append, All-map}
-use Rattle.std.proofs.lemmas.List.Sorted.{All-permutation, IsPermutation-map, length_permutation, ranks_by, sorted_far}
+use Rattle.std.proofs.lemmas.List.Sorted.{All-permutation, IsPermutation-map, IsPermutation-trans, length_permutation, ranks_by, sorted_far}
 use Rattle.std.proofs.lemmas.Simd.{map-map}
 use Rattle.gtfs_field.proofs.NumberFacts.{number_itself as itself}
 use Rattle.gtfs_field.proofs.OrderingFacts.{tied as both_equal}
@@ -33,7 +32,7 @@ use Rattle.gtfs_runs.specs.declared.event.Event.{Event}
 use Rattle.gtfs_runs.specs.steps.Apart.{AreApart}
 use Rattle.gtfs_runs.specs.steps.Whole.{AreWhole}
 use Rattle.gtfs_runs.specs.steps.Courses.{IsCourse, Stopping, course_of, how_many, is_same_course, stopping_cmp, stopping_events}
-use Rattle.gtfs_runs.specs.steps.Finds.{AreFound, times_found, times_told}
+use Rattle.gtfs_runs.specs.steps.Finds.{AreFound, times_told}
 use Rattle.gtfs_times.proofs.FilledContent.{sound-timed}
 use Rattle.gtfs_times.proofs.TimedContent.{content-timed}
 use Rattle.gtfs_times.specs.Filling.{timed}
@@ -48,7 +47,7 @@ use Rattle.gtfs_runs.proofs.Tallies.{tally-permutation, two_at}
 
 -- ---- events of a service, by a test
 
-events_tally : (k : ℕ) (e : Event) (xs : List Stopping) → tally (is_same e) (stopping_events k xs) ≡ tally (λ x. (x.course.service == k) && is_same e x.event) xs
+pub events_tally : (k : ℕ) (e : Event) (xs : List Stopping) → tally (is_same e) (stopping_events k xs) ≡ tally (λ x. (x.course.service == k) && is_same e x.event) xs
 events_tally k e [] = refl
 events_tally k e (x ∷ xs) = first (x.course.service == k) (filter (λ y. y.course.service == k) xs) (events_tally k e xs)
   where
@@ -77,8 +76,8 @@ module _ (p : Parts) (s : ℕ) (listed : List Stopping) (periods : List LaneValu
   ev k e = is_event (content_of_parts p) (text_of_number (stop_ids p) s) (text_of_number (service_ids p) k) e
 
   -- events are those of trips
-  told_once : (k : ℕ) (e : Event) → k < length p.services → times_found k e listed periods ≡ cond (ev k e) 1 0
-  told_once k e within = found.exact k e within ∙ elim (cases_Bool (nat_lt e.trip.0 (length p.trips))) [
+  told_once : (k : ℕ) (e : Event) → k < length p.services → tally (is_same e) (stopping_events k listed) + times_told k e periods ≡ cond (ev k e) 1 0
+  told_once k e within = found.told.exact k e within ∙ elim (cases_Bool (nat_lt e.trip.0 (length p.trips))) [
     | inl is ↦ ap (λ b. cond (b && ev k e) 1 0) is
     | inr isnt ↦
         let none = no_event p (text_of_number (stop_ids p) s) (text_of_number (service_ids p) k) e (ltb-false e.trip.0 (length p.trips) isnt) in
@@ -97,7 +96,7 @@ module _ (p : Parts) (s : ℕ) (listed : List Stopping) (periods : List LaneValu
       let course = both_equal _ _ parts.0 in
       let k = y.course.service in
       let q : Stopping → Bool = λ a. (a.course.service == k) && is_same y.event a.event in
-      let known : All (λ a. IsCourse p a.course) sorted = All-permutation (λ a. IsCourse p a.course) listed sorted same found.known in
+      let known : All (λ a. IsCourse p a.course) sorted = All-permutation (λ a. IsCourse p a.course) listed sorted same found.told.known in
       let second : q y ≡ true = both_true (itself k) (same-self y.event) in
       let services : x.course.service ≡ k = sym (nat_cmp-IsAntisymmetric y.course.service x.course.service course.0) in
       let first : q x ≡ true = both_true (ap (λ n. n == k) services ∙ itself k) (ap is_eq parts.1) in
@@ -122,17 +121,16 @@ module _ (p : Parts) (s : ℕ) (listed : List Stopping) (periods : List LaneValu
     pub listed_count : length lists ≡ how_many is_same_course (map (λ x. x.course) sorted) → list_count (content_of_parts p) (text_of_number (stop_ids p) s) ≡ length lists
     listed_count count =
         let f : Stopping → Course = λ x. course_of p x.course in
-        let known : All (λ a. IsCourse p a.course) sorted = All-permutation (λ a. IsCourse p a.course) listed sorted same found.known in
-        let texts : flat_map (courses_of c id) (filter (λ t. not (has_periods t)) c.trips) ≡ map f listed =
-        sym (found.courses ∙ ap (λ l. flat_map (courses_of c id) (filter (λ t. not (has_periods t)) l)) every) in
-        ap (λ l. set.len (set.from_list {R = course_cmp} l)) texts
-        ∙ set_permuted (map f listed) (map f sorted) (IsPermutation-map f listed sorted same)
+        let known : All (λ a. IsCourse p a.course) sorted = All-permutation (λ a. IsCourse p a.course) listed sorted same found.told.known in
+        let all = flat_map (courses_of c id) (filter (λ t. not (has_periods t)) c.trips) in
+        let texts : IsPermutation all (map f listed) = subst (λ l. IsPermutation (flat_map (courses_of c id) (filter (λ t. not (has_periods t)) l)) (map f listed)) every found.told.courses in
+        set_permuted all (map f sorted) (IsPermutation-trans all (map f listed) (map f sorted) texts (IsPermutation-map f listed sorted same))
         ∙ ap (how_many (eq_by_cmp course_cmp)) (sym (map-map (course_of p) (λ x. x.course) sorted))
         ∙ as_many p sound (map (λ x. x.course) sorted) (All-map (IsCourse p) (λ x. x.course) sorted known)
         ∙ sym count
 
     pub periodic : period_count (content_of_parts p) (text_of_number (stop_ids p) s) ≡ length periods
-    periodic = sym (found.counted ∙ ap (λ l. length (flat_map (λ t. flat_map (λ period. departure_rows c id t) t.frequencies) (filter has_periods l))) every)
+    periodic = sym (found.told.counted ∙ ap (λ l. length (flat_map (λ t. flat_map (λ period. departure_rows c id t) t.frequencies) (filter has_periods l))) every)
 
     exact_lanes : (k : ℕ) (e : Event) → k < length p.services → times_told k e (lists ++ periods) ≡ cond (ev k e) 1 0
     exact_lanes k e within =

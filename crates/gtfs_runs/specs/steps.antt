@@ -10,3 +10,4 @@ pub mod Numbers
 pub mod AtStops
 pub mod Children
 pub mod Places
+pub mod RowFinds

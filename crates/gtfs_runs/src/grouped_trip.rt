@@ -1,6 +1,8 @@
-ghost use Rattle.std.specs.Prelude.{◌≡◌, ◌<◌, IfOk, length};
+ghost use Rattle.std.specs.Prelude.{◌≡◌, ◌<◌, [], IfOk, length, slice_index_or};
 ghost use Rattle.std.specs.List.Sorted.{IsPermutation, IsSorted};
-ghost use Rattle.gtfs_runs.specs.steps.Groups.{group_cmp, group_of, stops_in, trip_group};
+ghost use Rattle.gtfs_rows.specs.Trips.{stop_rows_by_trip};
+ghost use Rattle.gtfs_runs.specs.steps.Groups.{group_cmp, group_of, grouped_cmp, stops_in, trip_group};
+ghost use Rattle.gtfs_runs.specs.steps.Passings.{first_left};
 
 use crate::departure_row::trip_start;
 use crate::stop_index::small_number;
@@ -28,6 +30,8 @@ impl GroupedTrip {
         requires { trip.0 < length feed.now.trips }
         ensures trip { IfOk result (λ grouped. grouped.trip ≡ trip) }
         ensures group { IfOk result (λ grouped. group_of grouped ≡ trip_group feed.now trip.0) }
+        ensures start { IfOk result (λ grouped. grouped.start
+            ≡ first_left (slice_index_or (stop_rows_by_trip feed.now) trip.0 [])) }
     {
         let rows = feed.trip_rows(trip);
         Ok(GroupedTrip {
@@ -57,13 +61,22 @@ fn stops_of(alloc: Global, rows: &[StopRow]) -> Result<Vec<u32>, OutOfMemory>
     Ok(stops)
 }
 
-// The trips by group. Those of a group stand by when they start.
+// The trips by group. Those of a group stand by when they start, and by their numbers.
 pub(crate) fn by_group(mut trips: Vec<GroupedTrip>) -> Vec<GroupedTrip>
     ensures same { IsPermutation trips.items result.items }
-    ensures in_order { IsSorted (λ x y. group_cmp (group_of x) (group_of y)) result.items }
+    ensures in_order { IsSorted grouped_cmp result.items }
 {
-    trips.sort_unstable_by(|a, b| group_order(a, b).then(a.start.cmp(&b.start)));
+    trips.sort_unstable_by(|a, b| trip_order(a, b));
     trips
+}
+
+// By group, by start and by number.
+fn trip_order(a: &GroupedTrip, b: &GroupedTrip) -> Ordering
+    ensures { result ≡ grouped_cmp a.now b.now }
+{
+    group_order(a, b)
+        .then(a.start.cmp(&b.start))
+        .then(a.trip.cmp(&b.trip))
 }
 
 // Groups compare by service, and then by stops.

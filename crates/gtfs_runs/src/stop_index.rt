@@ -9,16 +9,16 @@ ghost use Rattle.gtfs_times.specs.TimedRows.{timed_parts};
 mod at_stops;
 mod children;
 mod indexed_trips;
-mod place_rows;
 mod rooms;
 mod rows_by_stop;
 
 use crate::departure_row::left;
+use crate::grouped_trip::by_group;
 pub(crate) use crate::stop_index::at_stops::small_number;
-use crate::stop_index::children::{Child, Children};
+pub(crate) use crate::stop_index::children::Child;
+use crate::stop_index::children::Children;
 use crate::stop_index::indexed_trips::{indexed_trips, trips_of};
 pub(crate) use crate::stop_index::indexed_trips::{IndexedTrip, trip_at};
-pub(crate) use crate::stop_index::place_rows::place_rows;
 use crate::stop_index::rows_by_stop::RowsByStop;
 use gtfs_feed::Feed;
 use gtfs_field::OutOfMemory;
@@ -110,10 +110,10 @@ impl<'a> StopIndex<'a> {
     /// The index of a feed under a choice of times. Under [`Times::Interpolated`] stop times whose
     /// times are filled are departure rows too.
     ///
-    /// It looks at each stop time of the feed to see how much room each stop needs, and then at
-    /// each for the departure rows, which it does not sort. It sorts the trips by service, stops
-    /// and start, and until then it keeps four bytes more for each stop time. A trip with times to fill
-    /// is copied for as long as its departure rows are looked for.
+    /// It looks at each stop time of the feed to see how much room each stop needs, sorts the trips
+    /// by service, stops and start, and then looks at the stop times again for the departure rows,
+    /// trip after trip in that order. Until the end it keeps four bytes more for each stop time. A
+    /// trip with times to fill is copied for as long as its departure rows are looked for.
     ///
     /// GTFS Schedule Reference, `stop_times.txt`, and `parent_station` of `stops.txt`.
     ///
@@ -125,9 +125,10 @@ impl<'a> StopIndex<'a> {
         ensures times { IfOk result (λ index. index.times ≡ times) }
     {
         let (grouped, indexed) = trips_of(alloc, feed)?;
+        let grouped = by_group(grouped);
         let rows = RowsByStop::build(alloc, feed, times, &grouped)?;
         let children = Children::build(alloc, feed)?;
-        let trips = indexed_trips(feed, grouped, indexed)?;
+        let trips = indexed_trips(feed, &grouped, indexed)?;
         Ok(StopIndex {
             feed,
             times,
@@ -151,8 +152,9 @@ impl<'a> StopIndex<'a> {
         self.times
     }
 
-    /// The departure rows at a stop itself, whatever its parent, by trip and position. The stop's
-    /// number is below [`Feed::stop_count`] of the feed.
+    /// The departure rows at a stop itself, whatever its parent: by the services of their trips,
+    /// by the lists of stops, by when the trips leave their first stop, by the trips' numbers, and
+    /// in a trip by position. The stop's number is below [`Feed::stop_count`] of the feed.
     pub fn rows(&self, stop: StopNo) -> &[DepartureRow]
         requires { stop.0 < length self.now.feed.stops }
         ensures { slice_get self.now.rows stop.0 ≡ Some result.now }

@@ -6,7 +6,6 @@ ghost use Rattle.gtfs_runs.specs.StopLanes.{AreLanesOf, filled_value, lanes_of, 
 ghost use Rattle.gtfs_runs.specs.steps.Whole.{AreWhole};
 ghost use Rattle.gtfs_times.specs.Filling.{timed};
 
-mod at_rows;
 mod found;
 mod indexed;
 mod lanes;

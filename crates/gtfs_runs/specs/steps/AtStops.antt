@@ -28,6 +28,6 @@ abbrev pub position_of : ℕ → ℕ → DepartureRow
 position_of t r = record { trip = t; row = r; left = 0; sequence = 0 }
 
 -- they are in their order, and all before a position of a trip
-pub record StandBefore (t r : ℕ) (xs : List DepartureRow) : Type 0 where
-  pub in_order : Ascends departure_row_cmp xs
-  pub before : All (λ x. departure_row_cmp x (position_of t r) ≡ Less) xs
+pub record StandBefore (p : Parts) (t r : ℕ) (xs : List DepartureRow) : Type 0 where
+  pub in_order : Ascends (departure_row_cmp p) xs
+  pub before : All (λ x. departure_row_cmp p x (position_of t r) ≡ Less) xs

@@ -1,6 +1,7 @@
 -- What is found of the trips so far: the events of those without frequencies, and the lanes of the others.
 use Rattle.std.specs.Prelude.{◌≡◌, ◌<◌, ◌≤◌, ◌+◌, ◌&&◌, ℕ, not, nat_lt, All, List, [], ◌∷◌, cond, filter, length, map, take}
 use Rattle.std.specs.List.{flat_map}
+use Rattle.std.specs.List.Sorted.{IsPermutation}
 use Rattle.gtfs_rows.specs.Views.{content_of_parts, frequency_of, service_ids, stop_ids, text_of_number}
 use Rattle.gtfs_rows.specs.declared.frequency.Frequency.{Frequency}
 use Rattle.gtfs_rows.specs.declared.parts.Parts.{Parts}
@@ -45,18 +46,19 @@ pub record HasRuns (f : Frequency) : Type 0 where
 
 -- ---- the trips with a number below this one
 
--- how often an event of a service was found
-abbrev pub times_found : ℕ → Event → List Stopping → List LaneValue → ℕ
-times_found k e listed periods = tally (is_same e) (stopping_events k listed) + times_told k e periods
-
-pub record AreFound (p : Parts) (s n : ℕ) (listed : List Stopping) (periods : List LaneValue) : Type 0 where
+-- what was found of them: the events of those without frequencies, and how often lanes of the others tell an event of a service, and how many these lanes are
+pub record AreTold (p : Parts) (s n : ℕ) (listed : List Stopping) (told : ℕ → Event → ℕ) (count : ℕ) : Type 0 where
   pub exact : (k : ℕ) (e : Event) → k < length p.services
-      → times_found k e listed periods ≡ cond (nat_lt e.trip.0 n && is_event (content_of_parts p) (text_of_number (stop_ids p) s) (text_of_number (service_ids p) k) e) 1 0
+      → tally (is_same e) (stopping_events k listed) + told k e ≡ cond (nat_lt e.trip.0 n && is_event (content_of_parts p) (text_of_number (stop_ids p) s) (text_of_number (service_ids p) k) e) 1 0
   pub known : All (λ x. IsCourse p x.course) listed
   pub own : All (IsListed p) listed
+  pub courses : IsPermutation (flat_map (courses_of (content_of_parts p) (text_of_number (stop_ids p) s)) (filter (λ t. not (has_periods t)) (take n (content_of_parts p).trips)))
+      (map (λ x. course_of p x.course) listed)
+  pub counted : count
+      ≡ length (flat_map (λ t. flat_map (λ period. departure_rows (content_of_parts p) (text_of_number (stop_ids p) s) t) t.frequencies) (filter has_periods (take n (content_of_parts p).trips)))
+
+-- the same, with the lanes
+pub record AreFound (p : Parts) (s n : ℕ) (listed : List Stopping) (periods : List LaneValue) : Type 0 where
+  pub told : AreTold p s n listed (λ k e. times_told k e periods) (length periods)
   pub within : All (λ lane. lane.service < length p.services) periods
   pub runs : All (IsPeriodLane (content_of_parts p)) periods
-  pub courses : map (λ x. course_of p x.course) listed
-      ≡ flat_map (courses_of (content_of_parts p) (text_of_number (stop_ids p) s)) (filter (λ t. not (has_periods t)) (take n (content_of_parts p).trips))
-  pub counted : length periods
-      ≡ length (flat_map (λ t. flat_map (λ period. departure_rows (content_of_parts p) (text_of_number (stop_ids p) s) t) t.frequencies) (filter has_periods (take n (content_of_parts p).trips)))

@@ -47,6 +47,11 @@ sharing xs g = tally (λ x. is_eq (group_cmp (group_of x) g)) xs
 pub record AreOfTrips (p : Parts) (n : ℕ) (xs : List GroupedTrip) : Type 0 where
   pub once : (t : ℕ) → tally (λ x. t == x.trip.0) xs ≡ cond (nat_lt t n) 1 0
   pub groups : All (λ x. group_of x ≡ trip_group p x.trip.0) xs
+  pub starts : All (λ x. x.start ≡ first_left (slice_index_or (stop_rows_by_trip p) x.trip.0 [])) xs
+
+-- by group, then by when they leave the first stop, and then by number
+abbrev pub grouped_cmp : GroupedTrip → GroupedTrip → Ordering
+grouped_cmp = then_cmp (on group_of group_cmp) (then_cmp (on (λ x. x.start) nat_cmp) (on (λ x. x.trip.0) nat_cmp))
 
 -- the numbers of the groups of the first ones compare like these groups
 abbrev pub HaveGroups : ℕ → List GroupedTrip → List IndexedTrip → Type 0

@@ -1,4 +1,5 @@
 ghost use Rattle.std.specs.Prelude.{◌≡◌, ◌<◌, ◌+◌, ◌&&◌, ◌==◌, ℕ, All, AllPairs, IfOk, List, OnOk, Some, cond, length, map, slice_get};
+ghost use Rattle.std.specs.List.Sorted.{IsSorted};
 ghost use Rattle.gtfs_columns.specs.Values.{if_there};
 ghost use Rattle.gtfs_rows.specs.Order.{Ascends};
 ghost use Rattle.gtfs_rows.specs.Trips.{stop_rows_by_trip};
@@ -8,6 +9,7 @@ ghost use Rattle.gtfs_rows.specs.declared.trip.Trip.{Trip};
 ghost use Rattle.gtfs_runs.specs.Counts.{tally};
 ghost use Rattle.gtfs_runs.specs.StopIndex.{departure_row_cmp, is_this_row};
 ghost use Rattle.gtfs_runs.specs.steps.AtStops.{StandBefore, at_stop, departs_of, leaves_stop};
+ghost use Rattle.gtfs_runs.specs.steps.Groups.{AreOfTrips, grouped_cmp};
 ghost use Rattle.gtfs_runs.specs.steps.Noted.{IsNoted, noted_row};
 ghost use Rattle.gtfs_times.specs.TimedRows.{timed_parts};
 
@@ -21,27 +23,28 @@ use gtfs_rows::{StopRow, TripNo};
 use gtfs_times::{Times, filled, is_to_fill};
 use std::alloc::Global;
 
-// The departure rows at each stop of a feed, by trip and position. Its trips tell how much room
-// they need.
+// The departure rows at each stop of a feed, of its trips in the order in which they then stand.
 pub(crate) fn at_stops(
     alloc: Global,
     feed: &Feed,
     times: Times,
     trips: &[GroupedTrip],
 ) -> Result<Vec<Vec<DepartureRow>>, OutOfMemory>
+    requires trips { AreOfTrips feed.now (length feed.now.trips) trips.now }
+    requires in_order { IsSorted grouped_cmp trips.now }
     ensures length { IfOk result (λ found. length found.items ≡ length feed.now.stops) }
     ensures told { IfOk result (λ found. (s t r : ℕ)
         → tally (is_this_row t r) (at_stop (map (λ x. x.items) found.items) s)
         ≡ cond (departs_of (timed_parts times feed.now) s t r) 1 0) }
     ensures order { IfOk result (λ found.
-        All (Ascends departure_row_cmp) (map (λ x. x.items) found.items)) }
+        All (Ascends (departure_row_cmp feed.now)) (map (λ x. x.items) found.items)) }
     ensures noted { IfOk result (λ found.
         All (All (IsNoted (timed_parts times feed.now))) (map (λ x. x.items) found.items)) }
 {
     feed.soundness();
     let mut found = rooms(alloc, feed, trips)?;
-    for number in 0..feed.trip_count() {
-        add_trip(alloc, feed, TripNo(number), times, &mut found)?;
+    for trip in trips {
+        add_trip(alloc, feed, trip.trip, times, &mut found)?;
     }
     Ok(found)
 }
@@ -61,8 +64,9 @@ fn add_trip(
         → tally (is_this_row t r) (at_stop (map (λ x. x.items) found.new.items) s)
         ≡ tally (is_this_row t r) (at_stop (map (λ x. x.items) found.old.items) s)
         + cond ((t == trip.0) && departs_of (timed_parts times feed.now) s t r) 1 0) }
-    ensures order { OnOk result (All (StandBefore trip.0 0) (map (λ x. x.items) found.old.items)
-        → All (StandBefore (trip.0 + 1) 0) (map (λ x. x.items) found.new.items)) }
+    ensures order { OnOk result (
+        All (StandBefore feed.now trip.0 0) (map (λ x. x.items) found.old.items)
+        → All (Ascends (departure_row_cmp feed.now)) (map (λ x. x.items) found.new.items)) }
     ensures noted { OnOk result (
         All (All (IsNoted (timed_parts times feed.now))) (map (λ x. x.items) found.old.items)
         → All (All (IsNoted (timed_parts times feed.now))) (map (λ x. x.items) found.new.items)) }
@@ -90,8 +94,9 @@ fn add_rows(
         ≡ tally (is_this_row t r) (at_stop (map (λ x. x.items) found.old.items) s)
         + cond ((t == trip.0)
         && if_there (slice_get rows.now r) (leaves_stop p u rows.now fs s)) 1 0) }
-    ensures order { OnOk result (All (StandBefore trip.0 0) (map (λ x. x.items) found.old.items)
-        → All (StandBefore trip.0 (length rows.now)) (map (λ x. x.items) found.new.items)) }
+    ensures order { OnOk result ((p : Parts)
+        → All (StandBefore p trip.0 0) (map (λ x. x.items) found.old.items)
+        → All (StandBefore p trip.0 (length rows.now)) (map (λ x. x.items) found.new.items)) }
     ensures noted { OnOk result ((p : Parts)
         → slice_get (stop_rows_by_trip p) trip.0 ≡ Some rows.now
         → All (All (IsNoted p)) (map (λ x. x.items) found.old.items)
@@ -119,9 +124,9 @@ fn add_row(
         ≡ tally (is_this_row t r) (at_stop (map (λ x. x.items) found.old.items) s)
         + cond ((t == trip.0) && (r == position)
         && if_there (slice_get rows.now r) (leaves_stop p u rows.now fs s)) 1 0) }
-    ensures order { OnOk result (
-        All (StandBefore trip.0 position) (map (λ x. x.items) found.old.items)
-        → All (StandBefore trip.0 (position + 1)) (map (λ x. x.items) found.new.items)) }
+    ensures order { OnOk result ((p : Parts)
+        → All (StandBefore p trip.0 position) (map (λ x. x.items) found.old.items)
+        → All (StandBefore p trip.0 (position + 1)) (map (λ x. x.items) found.new.items)) }
     ensures noted { OnOk result ((p : Parts)
         → slice_get (stop_rows_by_trip p) trip.0 ≡ Some rows.now
         → All (All (IsNoted p)) (map (λ x. x.items) found.old.items)

@@ -9,7 +9,7 @@ ghost use Rattle.gtfs_runs.specs.steps.Groups.{AreIndexedTrips, AreMarked, AreOf
 ghost use Rattle.gtfs_runs.specs.steps.Passings.{first_left};
 
 use crate::departure_row::trip_start;
-use crate::grouped_trip::{GroupedTrip, by_group, group_order};
+use crate::grouped_trip::{GroupedTrip, group_order};
 use crate::stop_index::at_stops::small_number;
 use gtfs_feed::Feed;
 use gtfs_field::OutOfMemory;
@@ -61,20 +61,22 @@ pub(crate) fn trip_at(trips: &[IndexedTrip], trip: TripNo) -> IndexedTrip
     trips[trip.0]
 }
 
-// The trips of a feed with the numbers of their groups, by their own numbers.
+// The trips of a feed with the numbers of their groups, by their own numbers, of the same sorted by
+// group.
 pub(crate) fn indexed_trips(
     feed: &Feed,
-    trips: Vec<GroupedTrip>,
+    sorted: &[GroupedTrip],
     indexed: Vec<IndexedTrip>,
 ) -> Result<Vec<IndexedTrip>, OutOfMemory>
-    requires trips { AreOfTrips feed.now (length feed.now.trips) trips.items }
+    requires trips { AreOfTrips feed.now (length feed.now.trips) sorted.now }
+    requires in_order { IsSorted (λ x y. group_cmp (group_of x) (group_of y)) sorted.now }
     requires serving { AreServing feed.now indexed.items }
     requires started { AreStarted feed.now indexed.items }
     requires marked { AreMarked feed.now indexed.items }
     ensures { IfOk result (λ trips. AreIndexedTrips feed.now trips.items) }
 {
     feed.soundness();
-    with_groups(&by_group(trips), indexed)
+    with_groups(sorted, indexed)
 }
 
 // The trips of a feed, by their numbers, and the same before their groups are numbered.

@@ -1,5 +1,7 @@
 ghost use Rattle.std.specs.Prelude.{◌≡◌, ◌<◌, All, IfOk, Some, length, slice_get};
+ghost use Rattle.std.specs.List.Sorted.{IsSorted};
 ghost use Rattle.gtfs_runs.specs.StopIndex.{AreDepartureRows};
+ghost use Rattle.gtfs_runs.specs.steps.Groups.{AreOfTrips, grouped_cmp};
 ghost use Rattle.gtfs_runs.specs.steps.Noted.{IsNoted};
 ghost use Rattle.gtfs_times.specs.TimedRows.{timed_parts};
 
@@ -30,13 +32,15 @@ impl Model for RowsByStop {
 }
 
 impl RowsByStop {
-    // Those of a feed under a choice of times. Its trips tell how much room they need.
+    // Those of a feed under a choice of times, of its trips in the order in which they then stand.
     pub(crate) fn build(
         alloc: Global,
         feed: &Feed,
         times: Times,
         trips: &[GroupedTrip],
     ) -> Result<RowsByStop, OutOfMemory>
+        requires trips { AreOfTrips feed.now (length feed.now.trips) trips.now }
+        requires in_order { IsSorted grouped_cmp trips.now }
         ensures rows { IfOk result (λ rows. AreDepartureRows times feed.now rows) }
         ensures noted { IfOk result (λ rows. All (All (IsNoted (timed_parts times feed.now))) rows) }
     {
@@ -45,7 +49,7 @@ impl RowsByStop {
         Ok(RowsByStop { at_stops })
     }
 
-    // Those at a stop, by trip and position.
+    // Those at a stop.
     pub(crate) fn at(&self, stop: StopNo) -> &[DepartureRow]
         requires { stop.0 < length self.now }
         ensures { slice_get self.now stop.0 ≡ Some result.now }

@@ -164,7 +164,7 @@ fn add_listed(
 }
 
 // Adds the lanes of the frequencies of a trip.
-fn add_periods(
+pub(crate) fn add_periods(
     service: ServiceNo,
     trip: TripNo,
     frequencies: &[Frequency],

@@ -1,26 +1,26 @@
-ghost use Rattle.std.specs.Prelude.{◌≡◌, ◌≤◌, ◌<◌, All, IfOk, OnOk, drop, length, map, slice_index_or};
+ghost use Rattle.std.specs.Prelude.{◌≡◌, ◌≤◌, ◌<◌, ◌∷◌, [], All, IfOk, OnOk, length, map, slice_index_or};
+ghost use Rattle.std.specs.List.{flat_map};
 ghost use Rattle.gtfs_runs.specs.StopLanes.{period_value};
 ghost use Rattle.gtfs_runs.specs.declared.stop_index.indexed_trips.IndexedTrip.{IndexedTrip as TripValue};
+ghost use Rattle.gtfs_runs.specs.steps.AtStops.{at_stop};
 ghost use Rattle.gtfs_runs.specs.steps.Courses.{AreServed, stopping_of};
 ghost use Rattle.gtfs_runs.specs.steps.Finds.{AreFound};
 ghost use Rattle.gtfs_runs.specs.steps.Groups.{AreIndexedTrips};
+ghost use Rattle.gtfs_runs.specs.steps.Noted.{noted_passing};
 ghost use Rattle.gtfs_runs.specs.steps.Numbers.{AreNumbered};
-ghost use Rattle.gtfs_runs.specs.steps.Places.{ArePassingsAt, ArePlaceRows, first_trip};
+ghost use Rattle.gtfs_runs.specs.steps.RowFinds.{AreAdded, IsInside};
 ghost use Rattle.gtfs_times.specs.TimedRows.{timed_parts};
 
-use crate::step_lane::StepLane;
-use crate::stop_index::{DepartureRow, IndexedTrip, StopIndex, place_rows, trip_at};
-use crate::stop_lanes::at_rows::{passings_at, rows_of};
-use crate::stop_lanes::found::{Found, add_passings};
+use crate::stop_index::{Child, DepartureRow, IndexedTrip, StopIndex, trip_at};
+use crate::stop_lanes::found::{Found, add_periods};
 use crate::stop_lanes::listed::Listed;
 use crate::stop_lanes::passing::Passing;
 use gtfs_feed::Feed;
 use gtfs_field::OutOfMemory;
-use gtfs_rows::StopNo;
-use gtfs_times::Times;
+use gtfs_rows::{ServiceNo, StopNo};
 use std::alloc::Global;
 
-// What leaves the place of a stop, of the departure rows there.
+// What leaves the place of a stop, of the departure rows that an index has there.
 pub(crate) fn found_in_index(
     alloc: Global,
     index: &StopIndex<'_>,
@@ -34,109 +34,111 @@ pub(crate) fn found_in_index(
     ensures numbers { IfOk result (λ found. AreNumbered index.now.feed found.listed.items) }
     ensures services { IfOk result (λ found. AreServed index.now.feed found.listed.items) }
 {
-    let rows = place_rows(alloc, index, stop)?;
+    index.soundness();
+    index.notes();
     let feed = index.feed();
     feed.soundness();
-    let times = index.times();
+    let rows = index.rows(stop);
+    let children = index.children(stop);
     let trips = index.trips();
-    index.notes();
-    let passings = passings_at(alloc, trips, &rows)?;
-    let mut listed = Vec::with_capacity(alloc, rows.len())?;
-    let mut periods = Vec::new(alloc);
-    add_rows(
-        feed,
-        trips,
-        stop,
-        times,
-        &rows,
-        &passings,
-        &mut listed,
-        &mut periods,
-    )?;
-    Ok(Found { listed, periods })
+    let mut found = Found {
+        listed: Vec::with_capacity(alloc, rows.len())?,
+        periods: Vec::new(alloc),
+    };
+    add_rows(feed, trips, rows, &mut found)?;
+    add_children(index, trips, children, &mut found)?;
+    Ok(found)
 }
 
-// Adds what leaves the place of a stop at these departure rows, with their passings, trip after
-// trip.
-fn add_rows(
-    feed: &Feed,
+// Adds what leaves at these stops and platforms.
+fn add_children(
+    index: &StopIndex<'_>,
     trips: &[IndexedTrip],
-    stop: StopNo,
-    times: Times,
-    rows: &[DepartureRow],
-    passings: &[Passing],
-    listed: &mut Vec<Listed>,
-    periods: &mut Vec<StepLane>,
+    children: &[Child],
+    found: &mut Found,
 ) -> Result<(), OutOfMemory>
-    requires trips { AreIndexedTrips feed.now trips.now }
-    requires rows { ArePlaceRows (timed_parts times feed.now) stop.0 0 rows.now }
-    requires passings { ArePassingsAt (timed_parts times feed.now) rows.now passings.now }
-    ensures found { OnOk result (
-        AreFound (timed_parts times feed.now) stop.0 0
-        (map (stopping_of feed.now) listed.old.items) (map period_value periods.old.items)
-        → AreFound (timed_parts times feed.now) stop.0 (length feed.now.trips)
-        (map (stopping_of feed.now) listed.new.items) (map period_value periods.new.items)) }
+    requires stops { All (λ x. x.stop < length index.now.feed.stops) children.now }
+    requires rows { All (IsInside index.now.feed)
+        (flat_map (λ x. at_stop index.now.rows x.stop) children.now) }
+    requires trips { AreIndexedTrips index.now.feed trips.now }
+    ensures added { OnOk result (AreAdded index.now.feed
+        (flat_map (λ x. at_stop index.now.rows x.stop) children.now)
+        found.old.listed.items found.new.listed.items
+        (map period_value found.old.periods.items) (map period_value found.new.periods.items)) }
     ensures groups { OnOk result ((e : TripValue)
-        → All (λ x. (slice_index_or trips.now x.trip e).group ≡ x.group) listed.old.items
-        → All (λ x. (slice_index_or trips.now x.trip e).group ≡ x.group) listed.new.items) }
-    ensures services { OnOk result (AreServed feed.now listed.old.items
-        → AreServed feed.now listed.new.items) }
+        → All (λ x. (slice_index_or trips.now x.trip e).group ≡ x.group) found.old.listed.items
+        → All (λ x. (slice_index_or trips.now x.trip e).group ≡ x.group) found.new.listed.items) }
 {
-    feed.soundness();
-    let mut at = 0;
-    while at < rows.len() {
-        at += add_trip(
-            feed,
-            trips,
-            stop,
-            times,
-            &rows[at..],
-            &passings[at..],
-            listed,
-            periods,
-        )?;
+    for child in children {
+        add_rows(index.feed(), trips, index.rows(child.stop()), found)?;
     }
     Ok(())
 }
 
-// Adds what leaves the place of the trip of the first of these rows, with their passings. Answers
-// how many of them are that trip's.
-fn add_trip(
+// Adds what leaves at these departure rows.
+fn add_rows(
     feed: &Feed,
     trips: &[IndexedTrip],
-    stop: StopNo,
-    times: Times,
     rows: &[DepartureRow],
-    passings: &[Passing],
-    listed: &mut Vec<Listed>,
-    periods: &mut Vec<StepLane>,
-) -> Result<usize, OutOfMemory>
-    requires some { 0 < length rows.now }
+    found: &mut Found,
+) -> Result<(), OutOfMemory>
     requires trips { AreIndexedTrips feed.now trips.now }
-    requires rows { ArePlaceRows (timed_parts times feed.now) stop.0
-        (first_trip (length feed.now.trips) rows.now) rows.now }
-    requires passings { ArePassingsAt (timed_parts times feed.now) rows.now passings.now }
-    ensures some { IfOk result (λ n. 0 < n) }
-    ensures upto { IfOk result (λ n. n ≤ length rows.now) }
-    ensures found { IfOk result (λ n.
-        AreFound (timed_parts times feed.now) stop.0 (first_trip (length feed.now.trips) rows.now)
-        (map (stopping_of feed.now) listed.old.items) (map period_value periods.old.items)
-        → AreFound (timed_parts times feed.now) stop.0
-        (first_trip (length feed.now.trips) (drop n rows.now))
-        (map (stopping_of feed.now) listed.new.items) (map period_value periods.new.items)) }
-    ensures left { IfOk result (λ n. ArePlaceRows (timed_parts times feed.now) stop.0
-        (first_trip (length feed.now.trips) (drop n rows.now)) (drop n rows.now)) }
-    ensures groups { IfOk result (λ n. (e : TripValue)
-        → All (λ x. (slice_index_or trips.now x.trip e).group ≡ x.group) listed.old.items
-        → All (λ x. (slice_index_or trips.now x.trip e).group ≡ x.group) listed.new.items) }
-    ensures services { IfOk result (λ n. AreServed feed.now listed.old.items
-        → AreServed feed.now listed.new.items) }
+    requires rows { All (IsInside feed.now) rows.now }
+    ensures added { OnOk result (AreAdded feed.now rows.now
+        found.old.listed.items found.new.listed.items
+        (map period_value found.old.periods.items) (map period_value found.new.periods.items)) }
+    ensures groups { OnOk result ((e : TripValue)
+        → All (λ x. (slice_index_or trips.now x.trip e).group ≡ x.group) found.old.listed.items
+        → All (λ x. (slice_index_or trips.now x.trip e).group ≡ x.group) found.new.listed.items) }
+{
+    for row in rows {
+        add_row(feed, trips, row, found)?;
+    }
+    Ok(())
+}
+
+// Adds what leaves at a departure row: one event, or a lane for each row of `frequencies.txt`.
+fn add_row(
+    feed: &Feed,
+    trips: &[IndexedTrip],
+    row: &DepartureRow,
+    found: &mut Found,
+) -> Result<(), OutOfMemory>
+    requires trips { AreIndexedTrips feed.now trips.now }
+    requires row { IsInside feed.now row.now }
+    ensures added { OnOk result (AreAdded feed.now (row.now ∷ [])
+        found.old.listed.items found.new.listed.items
+        (map period_value found.old.periods.items) (map period_value found.new.periods.items)) }
+    ensures groups { OnOk result ((e : TripValue)
+        → All (λ x. (slice_index_or trips.now x.trip e).group ≡ x.group) found.old.listed.items
+        → All (λ x. (slice_index_or trips.now x.trip e).group ≡ x.group) found.new.listed.items) }
 {
     feed.soundness();
-    let trip = rows[0].trip();
-    let count = rows_of(rows, trip);
+    let trip = row.trip();
     let indexed = trip_at(trips, trip);
-    let own = &passings[..count];
-    add_passings(feed, trip, indexed, own, listed, periods)?;
-    Ok(count)
+    let passing = passing(row, indexed.start);
+    if !indexed.has_frequencies {
+        found.listed.push(Listed::of(trip, indexed, &passing)?)?;
+        return Ok(());
+    }
+    let service = ServiceNo(indexed.service as usize);
+    add_periods(
+        service,
+        trip,
+        feed.trip_frequencies(trip),
+        &[passing],
+        &mut found.periods,
+    )?;
+    Ok(())
+}
+
+// The passing at a departure row of a trip that starts at this second. No vehicle leaves before.
+fn passing(row: &DepartureRow, start: u32) -> Passing
+    ensures { result ≡ noted_passing start row.now }
+{
+    Passing {
+        after: row.left().saturating_sub(start),
+        seq: row.sequence(),
+        row: row.row(),
+    }
 }

@@ -101,11 +101,21 @@ pub(crate) fn sorted(alloc: Global, listed: Vec<Listed>) -> Result<Vec<Listed>, 
     ensures in_order { IfOk result (λ found. (p : Parts) → AreNumbered p listed.items
         → IsSorted stopping_cmp (map (stopping_of p) found.items)) }
 {
-    let places = places_by_rank(alloc, &listed)?;
-    let mut sorted = at_places(alloc, &listed, &places)?;
+    let mut sorted = by_rank(alloc, listed)?;
     // Mostly they stand in order by now, which one look at each tells.
     sorted.sort_unstable();
     Ok(sorted)
+}
+
+// The events by the ranks of their trips. An index has those of one stop in that order.
+fn by_rank(alloc: Global, listed: Vec<Listed>) -> Result<Vec<Listed>, OutOfMemory>
+    ensures { IfOk result (λ found. IsPermutation listed.items found.items) }
+{
+    if listed.is_sorted_by_key(|event| event.rank) {
+        return Ok(listed);
+    }
+    let places = places_by_rank(alloc, &listed)?;
+    at_places(alloc, &listed, &places)
 }
 
 // The places of these events, by the ranks of their trips: a place and a rank take eight bytes, and

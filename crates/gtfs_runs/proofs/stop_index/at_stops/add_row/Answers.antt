@@ -15,7 +15,7 @@ returns-then-not-is_departure_row c =
       told = λ s t r p u fs.
           row_passed p u rows fs c.args.trip.0 c.args.position d _ c.requires.within
           (sym (c.is_departure_row.ensures p u fs d) ∙ c.if-not-is_departure_row.true) s t r;
-      order = row_later c.args.trip.0 c.args.position _;
+      order = λ p. row_later p c.args.trip.0 c.args.position _;
       noted = λ p at were. were;
     }
 
@@ -37,6 +37,6 @@ returns c =
       told = λ s t r p u fs.
           row_added p u rows fs c.args.trip.0 c.args.position d d _ _ row c.requires.within
           (sym (c.is_departure_row.ensures p u fs d) ∙ c.if-not-is_departure_row.false) c.in_ok-row.ensures inside pushed s t r;
-      order = row_last c.args.trip.0 c.args.position stop d row _ _ c.in_ok-row.ensures inside pushed;
+      order = λ p. row_last p c.args.trip.0 c.args.position stop d row _ _ c.in_ok-row.ensures inside pushed;
       noted = λ p at. noted_last p stop row _ _ (noted_here p c.args.trip.0 c.args.position rows d row at c.requires.within c.index-rows-position.is c.in_ok-row.ensures) inside pushed;
     }

@@ -18,7 +18,7 @@ loop-position-init c = record {
   length = refl;
   told = λ s t r p u fs.
       no_rows (t == c.args.trip.0) (if_there (slice_get c.args.rows.now r) (leaves_stop p u c.args.rows.now fs s)) r (tally (is_this_row t r) (at_stop (map (λ x. x.items) c.args.found.now.items) s));
-  order = λ was. was;
+  order = λ p was. was;
   noted = λ p at were. were;
 }
 
@@ -28,7 +28,7 @@ loop-position-preserved c = record {
   told = λ s t r p u fs.
       more_rows (t == c.args.trip.0) (if_there (slice_get c.args.rows.now r) (leaves_stop p u c.args.rows.now fs s)) r c.loop-position.position _ _ _
       (c.loop-position.invariant.told s t r p u fs) (c.in_ok-add_row.ensures.told s t r p u fs);
-  order = λ was. c.in_ok-add_row.ensures.order (c.loop-position.invariant.order was);
+  order = λ p was. c.in_ok-add_row.ensures.order p (c.loop-position.invariant.order p was);
   noted = λ p at were. c.in_ok-add_row.ensures.noted p at (c.loop-position.invariant.noted p at were);
 }
 
@@ -45,8 +45,8 @@ returns c =
           ∙ ap (λ b. tally (is_this_row t r) (at_stop (map (λ x. x.items) c.args.found.now.items) s) + cond b 1 0)
           (all_rows (t == c.args.trip.0) (if_there (slice_get rows r) q) r n
           (λ holds. let known : r < length rows = asked_within (t == c.args.trip.0) q rows r holds in omega (arith, known, past)));
-      order = λ was.
+      order = λ p was.
           let all : n ≡ length rows = omega (arith, c.loop-position-test.false, c.loop-position.auto.position-end) in
-          subst (λ m. All (StandBefore c.args.trip.0 m) (map (λ x. x.items) c.loop-position.found.items)) all (c.loop-position.invariant.order was);
+          subst (λ m. All (StandBefore p c.args.trip.0 m) (map (λ x. x.items) c.loop-position.found.items)) all (c.loop-position.invariant.order p was);
       noted = c.loop-position.invariant.noted;
     }

@@ -18,6 +18,6 @@ invariant-loop-position l = record {
   told : (s t r : ℕ) (p : Parts) (u : Trip) (fs : List Frequency) → tally (is_this_row t r) (at_stop (map (λ x. x.items) l.found.items) s)
       ≡ tally (is_this_row t r) (at_stop (map (λ x. x.items) l.fn.found.items) s)
       + cond ((t == l.trip.0) && nat_lt r l.position && if_there (slice_get l.rows r) (leaves_stop p u l.rows fs s)) 1 0;
-  order : All (StandBefore l.trip.0 0) (map (λ x. x.items) l.fn.found.items) → All (StandBefore l.trip.0 l.position) (map (λ x. x.items) l.found.items);
+  order : (p : Parts) → All (StandBefore p l.trip.0 0) (map (λ x. x.items) l.fn.found.items) → All (StandBefore p l.trip.0 l.position) (map (λ x. x.items) l.found.items);
   noted : (p : Parts) → slice_get (stop_rows_by_trip p) l.trip.0 ≡ Some l.rows → All (All (IsNoted p)) (map (λ x. x.items) l.fn.found.items) → All (All (IsNoted p)) (map (λ x. x.items) l.found.items);
 }

@@ -1,7 +1,7 @@
 use Rattle.std.proofs.Common.{◌∙◌, length, refl, sym}
 use Rattle.std.proofs.lemmas.Result.{on_ok_weaker}
 use Rattle.gtfs_times.specs.TimedRows.{timed_parts}
-use Rattle.gtfs_runs.proofs.AtStopFacts.{trip_added, trip_later}
+use Rattle.gtfs_runs.proofs.AtStopFacts.{trip_added}
 use Rattle.gtfs_runs.proofs.TimedTrips.{filled_under, rows_timed, times_of}
 use Rattle.gtfs_runs.proofs.stop_index.at_stops.add_trip.Goals as goal
 
@@ -35,7 +35,7 @@ returns-then-is_to_fill c =
       told = on_ok_weaker c.add_rows.result
           (λ added. trip_added c.args.times c.args.feed.now c.soundness.ensures c.args.trip.0 rows _ _ _ c.trip_rows-rows.ensures is added)
           c.add_rows.ensures.told;
-      order = on_ok_weaker c.add_rows.result (λ later was. trip_later c.args.trip.0 _ _ (later was)) c.add_rows.ensures.order;
+      order = on_ok_weaker c.add_rows.result (λ later was k d within. (later c.args.feed.now was k d within).in_order) c.add_rows.ensures.order;
       noted = on_ok_weaker c.add_rows.result (λ more. more q (rows_timed c.args.times c.args.feed.now c.soundness.ensures c.args.trip.0 rows _ c.trip_rows-rows.ensures is)) c.add_rows.ensures.noted;
     }
 
@@ -49,6 +49,6 @@ returns c =
       told = on_ok_weaker c.add_rows-2.result
           (λ added. trip_added c.args.times c.args.feed.now c.soundness.ensures c.args.trip.0 rows _ _ _ c.trip_rows-rows.ensures is added)
           c.add_rows-2.ensures.told;
-      order = on_ok_weaker c.add_rows-2.result (λ later was. trip_later c.args.trip.0 _ _ (later was)) c.add_rows-2.ensures.order;
+      order = on_ok_weaker c.add_rows-2.result (λ later was k d within. (later c.args.feed.now was k d within).in_order) c.add_rows-2.ensures.order;
       noted = on_ok_weaker c.add_rows-2.result (λ more. more q (rows_timed c.args.times c.args.feed.now c.soundness.ensures c.args.trip.0 rows _ c.trip_rows-rows.ensures is)) c.add_rows-2.ensures.noted;
     }

@@ -31,7 +31,7 @@ loop-number-preserved c =
     let fs = get_or lists n none in
     let own = get_or rows n [] in
     record {
-      trips = one_trip_more p n c.loop-number.trips.items _ trip (ap (λ t. t.0) c.in_ok-of.ensures.trip) c.in_ok-of.ensures.group c.in_ok-push.ensures.items c.loop-number.invariant.trips;
+      trips = one_trip_more p n c.loop-number.trips.items _ trip (ap (λ t. t.0) c.in_ok-of.ensures.trip) c.in_ok-of.ensures.group c.in_ok-of.ensures.start c.in_ok-push.ensures.items c.loop-number.invariant.trips;
       serving = pushed-more (λ v. v.service_id.0) p.trips n u _ _ x.service inside (get_or_default p.trips n some u inside) c.loop-number.invariant.serving
           (ap (map (λ (y : IndexedTrip). y.service)) c.in_ok-push-2.ensures.items ∙ map-append (λ (y : IndexedTrip). y.service) c.loop-number.indexed.items (x ∷ []))
           (c.in_ok-of-2.ensures.service ∙ ap (λ o. unwrap_or (option_map (λ v. v.service_id.0) o) 0) (slice_get-get_or p.trips n some inside));

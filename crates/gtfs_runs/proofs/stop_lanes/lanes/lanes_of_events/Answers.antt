@@ -41,8 +41,8 @@ returns c =
     let numbers = subst (AreNumbered p) (sym lent) (pairs_permuted (IsNumbered p) c.args.listed.items xs c.in_ok-listed.ensures.same c.requires.numbers) in
     let served : AreServed p xs = All-permutation (λ x. (trip_group p x.trip).0 ≡ x.service) c.args.listed.items xs c.in_ok-listed.ensures.same c.requires.services in
     let same : IsPermutation listed sorted = IsPermutation-map (stopping_of p) _ _ c.in_ok-listed.ensures.same in
-    let known : All (λ x. IsCourse q x.course) sorted = All-permutation (λ x. IsCourse q x.course) listed sorted same found.known in
-    let own : All (λ x. IsListed q (stopping_of p x)) xs = all_mapped (IsListed q) (stopping_of p) xs (All-permutation (IsListed q) listed sorted same found.own) in
+    let known : All (λ x. IsCourse q x.course) sorted = All-permutation (λ x. IsCourse q x.course) listed sorted same found.told.known in
+    let own : All (λ x. IsListed q (stopping_of p x)) xs = all_mapped (IsListed q) (stopping_of p) xs (All-permutation (IsListed q) listed sorted same found.told.own) in
     let services : All (λ x. x.service < length p.services) xs = λ k d h. subst (λ n. n < length p.services) (served k d h) (all_mapped (λ x. IsCourse q x.course) (stopping_of p) xs known k d h).service in
     are_whole c.args.times p c.soundness.ensures c.args.stop.0 listed periods found sorted same (map list_value lists)
     (λ k. c.in_ok-lists.ensures.told p k numbers (subst (AreServed p) (sym lent) served) ∙ ap (λ l. stopping_events k (map (stopping_of p) l)) lent)

@@ -8,7 +8,7 @@ use Rattle.gtfs_runs.proofs.stop_lanes.lanes.lanes_of_feed.Goals as goal
 pub numbered-requires : goal.numbered-requires
 numbered-requires c =
     let p = c.args.feed.now in
-    trips_listed p (timed_parts c.args.times p) c.in_ok-found.found.listed.items (c.in_ok-found.ensures.found c.args.stop.0 c.in_ok-place.ensures).own
+    trips_listed p (timed_parts c.args.times p) c.in_ok-found.found.listed.items (c.in_ok-found.ensures.found c.args.stop.0 c.in_ok-place.ensures).told.own
 
 pub lanes_of_events-requires-clause-found : goal.lanes_of_events-requires-clause-found
 lanes_of_events-requires-clause-found c =

@@ -1,8 +1,12 @@
 use Rattle.std.proofs.Common.{◌≡◌, ◌≤◌, sym, subst}
 use Rattle.std.specs.List.{All}
-use Rattle.gtfs_runs.specs.steps.Groups.{below, sharing, trip_group}
-use Rattle.gtfs_runs.proofs.Numbers.{are_numbered, both_made, shared_by}
+use Rattle.std.specs.List.Sorted.{IsSorted}
+use Rattle.gtfs_runs.specs.steps.Groups.{below, grouped_cmp, sharing, trip_group}
+use Rattle.gtfs_runs.proofs.Numbers.{are_numbered, both_made, by_groups, shared_by}
 use Rattle.gtfs_runs.proofs.stop_lanes.numbered.numbered.Goals as goal
+
+pub with_groups-requires-clause-in_order : goal.with_groups-requires-clause-in_order
+with_groups-requires-clause-in_order c = by_groups _ (subst (IsSorted grouped_cmp) (sym c.deref-2.ensures.value) c.by_group-trips.ensures.in_order)
 
 pub returns-clause-numbers : goal.returns-clause-numbers
 returns-clause-numbers c =
