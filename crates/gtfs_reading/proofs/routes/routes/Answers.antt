@@ -10,12 +10,6 @@ use Rattle.gtfs_reading.proofs.Filled.{list_filled}
 use Rattle.gtfs_reading.proofs.IdTexts.{content_list}
 use Rattle.gtfs_reading.proofs.routes.routes.Goals as goal
 
-pub push_routes-requires-clause-agencies : goal.push_routes-requires-clause-agencies
-push_routes-requires-clause-agencies c = c.new-finder.ensures ∙ c.requires.agencies
-
-pub push_routes-requires-clause-none : goal.push_routes-requires-clause-none
-push_routes-requires-clause-none c = c.in_ok-routes.ensures.items
-
 pub returns-clause-rows : goal.returns-clause-rows
 returns-clause-rows c =
     let d = c.args.tables.now in

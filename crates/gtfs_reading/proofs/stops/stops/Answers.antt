@@ -10,12 +10,6 @@ use Rattle.gtfs_reading.proofs.Filled.{list_filled}
 use Rattle.gtfs_reading.proofs.IdTexts.{content_list}
 use Rattle.gtfs_reading.proofs.stops.stops.Goals as goal
 
-pub push_stops-requires-clause-finder : goal.push_stops-requires-clause-finder
-push_stops-requires-clause-finder c = c.new-finder.ensures ∙ c.requires.ids
-
-pub push_stops-requires-clause-none : goal.push_stops-requires-clause-none
-push_stops-requires-clause-none c = c.in_ok-stops.ensures.items
-
 pub returns-clause-rows : goal.returns-clause-rows
 returns-clause-rows c =
     let d = c.args.tables.now in

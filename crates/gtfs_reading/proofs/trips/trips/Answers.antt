@@ -12,12 +12,6 @@ use Rattle.gtfs_reading.proofs.Filled.{list_filled}
 use Rattle.gtfs_reading.proofs.IdTexts.{content_list}
 use Rattle.gtfs_reading.proofs.trips.trips.Goals as goal
 
-pub push_trips-requires-clause-routes : goal.push_trips-requires-clause-routes
-push_trips-requires-clause-routes c = c.new-finder.ensures ∙ c.requires.routes
-
-pub push_trips-requires-clause-none : goal.push_trips-requires-clause-none
-push_trips-requires-clause-none c = c.in_ok-trips.ensures.items
-
 pub returns-clause-rows : goal.returns-clause-rows
 returns-clause-rows c =
     let d = c.args.tables.now in
