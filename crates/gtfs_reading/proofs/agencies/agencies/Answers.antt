@@ -8,9 +8,6 @@ use Rattle.gtfs_reading.proofs.Filled.{list_filled}
 use Rattle.gtfs_reading.proofs.IdTexts.{content_list}
 use Rattle.gtfs_reading.proofs.agencies.agencies.Goals as goal
 
-pub push_agencies-requires : goal.push_agencies-requires
-push_agencies-requires c = c.in_ok-agencies.ensures.items
-
 pub returns : goal.returns
 returns c =
     let d = c.args.tables.now in

@@ -2,15 +2,8 @@ use Rattle.std.proofs.Common.{◌∙◌, ◌<◌, ◌≤◌, ap, arith, length, 
 use Rattle.gtfs_columns.specs.steps.Ids.{rows_by_number}
 use Rattle.gtfs_rows.specs.Reading.{agency_in}
 use Rattle.gtfs_rows.specs.Views.{agency_of}
-use Rattle.gtfs_reading.proofs.ByIds.{as_many}
 use Rattle.gtfs_reading.proofs.Fields.{listed_all, listed_next}
 use Rattle.gtfs_reading.proofs.agencies.push_agencies.Goals as goal
-
-pub loop-number-init : goal.loop-number-init
-loop-number-init c = record {
-  listed = ap (map agency_of) c.requires;
-  end = c.len-number-end.ensures.value ∙ as_many c.args.ids.now;
-}
 
 pub loop-number-preserved : goal.loop-number-preserved
 loop-number-preserved c =

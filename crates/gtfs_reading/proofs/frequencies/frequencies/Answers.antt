@@ -3,7 +3,6 @@ use Rattle.std.proofs.lemmas.Simd.{map-map}
 use Rattle.gtfs_table.specs.Parts.{parts}
 use Rattle.gtfs_table.specs.declared.file.File.TheVariants as file
 use Rattle.gtfs_columns.specs.Columns.{id, required}
-use Rattle.gtfs_columns.specs.Problems.{Passes}
 use Rattle.gtfs_columns.specs.steps.Ids.{first_rows, ids_of, rows_by_number}
 use Rattle.gtfs_rows.specs.declared.frequency.Frequency.{Frequency as FrequencyRow}
 use Rattle.gtfs_rows.specs.Reading.{content_of, trip_in}
@@ -13,18 +12,6 @@ use Rattle.gtfs_reading.specs.declared.frequencies.TripFrequencies.{TripFrequenc
 use Rattle.gtfs_reading.proofs.Filled.{filled}
 use Rattle.gtfs_reading.proofs.IdTexts.{content_list}
 use Rattle.gtfs_reading.proofs.frequencies.frequencies.Goals as goal
-
-pub push_by_trip-requires-clause-passes : goal.push_by_trip-requires-clause-passes
-push_by_trip-requires-clause-passes c = subst Passes (sym c.in_ok-file.ensures) c.requires.passes
-
-pub push_by_trip-requires-clause-trips : goal.push_by_trip-requires-clause-trips
-push_by_trip-requires-clause-trips c = c.requires.trips ∙ ap (λ d. first_rows d file.Trips (codes "trip_id")) (sym c.in_ok-file.ensures)
-
-pub push_by_trip-requires-clause-no_starts : goal.push_by_trip-requires-clause-no_starts
-push_by_trip-requires-clause-no_starts c = c.in_ok-starts.ensures.items
-
-pub push_by_trip-requires-clause-no_rows : goal.push_by_trip-requires-clause-no_rows
-push_by_trip-requires-clause-no_rows c = c.new-rows.ensures.items
 
 pub returns-clause-rows : goal.returns-clause-rows
 returns-clause-rows c =

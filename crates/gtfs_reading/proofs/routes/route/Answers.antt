@@ -30,7 +30,6 @@ returns-clause-value c =
 pub returns-clause-number : goal.returns-clause-number
 returns-clause-number c =
     let d = c.args.tables.now in
-    let text = field_at d file.Routes c.args.row _ _ c.record-record.ensures c.requires.columns in
     filled (λ r. names_agency (ids_of d file.Agency "agency_id") r ≡ true) c.read_texts.result c.and.result c.read_texts.new.route c.and.ensures
     c.read_texts.ensures (λ texts. ap (names_agency (ids_of d file.Agency "agency_id")) (texts d c.args.row c.requires.columns c.record-record.ensures)
     ∙ agency_within d c.requires.passes _ _ c.unwrap_or-agency.result c.requires.agencies (c.unwrap_or-agency.ensures ∙ ap (λ o. unwrap_or o 0) c.number.ensures.number))

@@ -1,18 +1,11 @@
-use Rattle.std.proofs.Common.{◌≡◌, ◌∙◌, map, refl, subst, sym}
+use Rattle.std.proofs.Common.{◌≡◌, ◌∙◌, map, refl, sym}
 use Rattle.std.specs.Cmp.Lexicographic.{nat_list_cmp_total}
 use Rattle.gtfs_field.specs.TextOrder.{text_cmp}
-use Rattle.gtfs_columns.specs.Problems.{Passes}
 use Rattle.gtfs_rows.specs.Reading.{content_of, service_row_in, services_named}
 use Rattle.gtfs_rows.specs.Views.{service_of}
 use Rattle.gtfs_reading.proofs.ByIds.{by_key_made}
 use Rattle.gtfs_reading.proofs.Filled.{list_filled}
 use Rattle.gtfs_reading.proofs.services.services.Goals as goal
-
-pub push_services-requires-clause-passes : goal.push_services-requires-clause-passes
-push_services-requires-clause-passes c = subst Passes (sym c.in_ok-calendars.ensures) c.requires.passes
-
-pub push_services-requires-clause-none : goal.push_services-requires-clause-none
-push_services-requires-clause-none c = c.in_ok-services.ensures.items
 
 pub returns : goal.returns
 returns c =

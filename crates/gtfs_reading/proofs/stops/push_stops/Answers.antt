@@ -5,19 +5,8 @@ use Rattle.gtfs_columns.specs.steps.Ids.{rows_by_number}
 use Rattle.gtfs_rows.specs.Reading.{stop_in}
 use Rattle.gtfs_reading.specs.Named.{ids_of}
 use Rattle.gtfs_rows.specs.NamedRows.{names_parent, stop_named}
-use Rattle.gtfs_reading.proofs.ByIds.{as_many}
 use Rattle.gtfs_reading.proofs.Fields.{all_next, listed_all, listed_next, numbered_row}
 use Rattle.gtfs_reading.proofs.stops.push_stops.Goals as goal
-
-pub loop-number-init : goal.loop-number-init
-loop-number-init c =
-    let d = c.args.tables.now in
-    record {
-      listed = ap (map (stop_named (ids_of d file.Stops "stop_id"))) c.requires.none;
-      within = ap (list_all (names_parent (ids_of d file.Stops "stop_id"))) c.requires.none;
-      end = c.len-number-end.ensures.value ∙ as_many c.args.ids.now;
-      finder = c.requires.finder;
-    }
 
 pub stop-requires-clause-row : goal.stop-requires-clause-row
 stop-requires-clause-row c =
@@ -45,6 +34,3 @@ returns-clause-rows c =
     let ns = rows_by_number c.args.ids.now in
     let whole : length ns ≤ c.loop-number.number = omega (arith, c.loop-number-test.false, c.loop-number.invariant.end) in
     listed_all (stop_named (ids_of d file.Stops "stop_id")) (stop_in d) ns c.loop-number.number c.loop-number.stops.items whole c.loop-number.invariant.listed
-
-pub returns-clause-numbers : goal.returns-clause-numbers
-returns-clause-numbers c = c.loop-number.invariant.within

@@ -32,7 +32,6 @@ returns-clause-value c =
 pub returns-clause-number : goal.returns-clause-number
 returns-clause-number c =
     let d = c.args.tables.now in
-    let text = field_at d file.Stops c.args.row _ _ c.record-record.ensures c.requires.columns in
     filled (λ r. names_parent (ids_of d file.Stops "stop_id") r ≡ true) c.read_texts.result c.and.result c.read_texts.new.stop c.and.ensures
     c.read_texts.ensures (λ texts. ap (names_parent (ids_of d file.Stops "stop_id")) (texts d c.args.row c.requires.columns c.record-record.ensures)
     ∙ end_within c.args.tables.now file.Stops "stop_id" _ _ _ c.requires.stops (c.as_stop.ensures ∙ c.number.ensures.number))

@@ -6,19 +6,8 @@ use Rattle.gtfs_rows.specs.Reading.{trip_in}
 use Rattle.gtfs_reading.specs.Named.{ids_of}
 use Rattle.gtfs_rows.specs.NamedRows.{names_route_and_service, trip_named, without_rows}
 use Rattle.gtfs_reading.specs.ServiceIds.{service_ids}
-use Rattle.gtfs_reading.proofs.ByIds.{as_many}
 use Rattle.gtfs_reading.proofs.Fields.{all_next, listed_all, listed_next, numbered_row}
 use Rattle.gtfs_reading.proofs.trips.push_trips.Goals as goal
-
-pub loop-number-init : goal.loop-number-init
-loop-number-init c =
-    let d = c.args.tables.now in
-    record {
-      listed = ap (map (trip_named (ids_of d file.Routes "route_id") (service_ids d))) c.requires.none;
-      within = ap (list_all (names_route_and_service (ids_of d file.Routes "route_id") (service_ids d))) c.requires.none;
-      end = c.len-number-end.ensures.value ∙ as_many c.args.ids.now;
-      finder = c.requires.routes;
-    }
 
 pub trip-requires-clause-row : goal.trip-requires-clause-row
 trip-requires-clause-row c =
@@ -46,6 +35,3 @@ returns-clause-rows c =
     let ns = rows_by_number c.args.ids.now in
     let whole : length ns ≤ c.loop-number.number = omega (arith, c.loop-number-test.false, c.loop-number.invariant.end) in
     listed_all (trip_named (ids_of d file.Routes "route_id") (service_ids d)) (λ n. without_rows (trip_in d n)) ns c.loop-number.number c.loop-number.trips.items whole c.loop-number.invariant.listed
-
-pub returns-clause-numbers : goal.returns-clause-numbers
-returns-clause-numbers c = c.loop-number.invariant.within
