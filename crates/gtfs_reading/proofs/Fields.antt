@@ -1,25 +1,22 @@
 -- The fields of a row, and the lists of rows that a loop makes.
-use Rattle.std.proofs.Common.{◌≡◌, ◌<◌, ◌≤◌, ◌+◌, ◌∷◌, ◌++◌, [], ℕ, List, length, map, take, get_or, true, Bool, codes, Option, Some, None, option_map, refl, sym, ap, subst, ◌∙◌, arith}
-use Prim.Native.String.{String as Literal}
+use Rattle.std.proofs.Common.{◌≡◌, ◌<◌, ◌≤◌, ◌+◌, ◌∷◌, ◌++◌, [], ℕ, List, length, map, take, get_or, true, Bool, Option, Some, None, option_map, refl, sym, ap, subst, ◌∙◌, arith}
 use Rattle.std.specs.List.{All, list_all}
 use Rattle.std.proofs.lemmas.List.{map_more, map_push, take_all}
 use Rattle.std.proofs.lemmas.List.Folds.{list_all-append}
-use Rattle.gtfs_table.proofs.RowFacts.{value_is}
 use Rattle.gtfs_table.specs.Rows.{is_row, records_in}
-use Rattle.gtfs_table.specs.Tables.{Dataset, column_of, field_under, record_at}
+use Rattle.gtfs_table.specs.Tables.{Dataset, field_under, record_at}
 use Rattle.gtfs_table.specs.declared.file.File.{File}
-use Rattle.gtfs_columns.specs.Rows.{text_in}
 use Rattle.gtfs_columns.specs.steps.Ids.{FirstRows, first_rows, rows_by_number}
+use Rattle.gtfs_reading.specs.ColumnIndices.{column_indices}
 use Rattle.gtfs_reading.proofs.ByIds.{rows_are}
 use Rattle.std.proofs.lemmas.List.Elements.{All-head}
 use Rattle.std.proofs.lemmas.Simd.{map-map}
 use Rattle.gtfs_reading.proofs.CalendarFacts.{head_of}
 
--- the text of a field, whose column was found in the header
-pub field_is : (e d : Dataset) → e ≡ d → (x : File) (n : ℕ) (r : List (List ℕ)) (column : Option ℕ) (name : Literal) (t : List ℕ)
-    → r ≡ record_at (records_in e x) n → column ≡ column_of (records_in e x) (codes name) → t ≡ field_under r column → t ≡ text_in d x n (codes name)
-field_is e d same x n r column name t read found is =
-    is ∙ value_is (records_in e x) n r (codes name) column read found ∙ ap (λ d. text_in d x n (codes name)) same
+-- the text of a field by the place of its column
+pub field_at : (d : Dataset) (x : File) (n : ℕ) (r : List (List ℕ)) (columns : List (Option ℕ)) → r ≡ record_at (records_in d x) n → columns ≡ column_indices d x
+    → (k : ℕ) → field_under r (get_or columns k None) ≡ field_under (record_at (records_in d x) n) (get_or (column_indices d x) k None)
+field_at d x n r columns read found k i = field_under (read i) (get_or (found i) k None)
 
 -- an item for each of the first numbers
 pub listed_next_of : {A X Y : Type 0} (f : X → Y) (g : A → Y) (ns : List A) (k : ℕ) (out : List X) (x : X) (z : A) → k < length ns

@@ -1,9 +1,7 @@
-pub mod AgencyColumns
 pub mod ByTrip
-pub mod CalendarColumns
 pub mod CalendarRows
+pub mod ColumnIndices
 pub mod Cuts
-pub mod DateColumns
 pub mod FeedRows
 pub mod FirstNamed
 pub mod FrequencyColumns
@@ -12,10 +10,6 @@ pub mod HeadsignIndex
 pub mod Lists
 pub mod Named
 pub mod Numbers
-pub mod RouteColumns
 pub mod ServiceIds
-pub mod StopColumns
 pub mod StopTimeDraft
 pub mod StopTimeLists
-pub mod TransferColumns
-pub mod TripColumns

@@ -5,75 +5,32 @@ ghost use Rattle.std.specs.Prelude.{◌≡◌, pos, unwrap_or};
 ghost use Rattle.gtfs_columns.specs.Calendars.{week_in};
 ghost use Rattle.gtfs_columns.specs.Columns as kind;
 ghost use Rattle.gtfs_columns.specs.Reads.{amount_of};
+ghost use Rattle.gtfs_reading.specs.ColumnIndices.{column_indices};
+ghost use Rattle.gtfs_table.specs.declared.file.File.TheVariants as file;
 
 use crate::numbers::day;
 use gtfs_columns::values;
 use gtfs_days::Week;
 use gtfs_table::{File, Tables};
-use std::marker::Model;
 
-// calendar.txt with its columns found.
-#[derive(Drop)]
-pub(crate) struct CalendarFile<'a> {
-    tables: &'a Tables,
-    monday: Option<usize>,
-    tuesday: Option<usize>,
-    wednesday: Option<usize>,
-    thursday: Option<usize>,
-    friday: Option<usize>,
-    saturday: Option<usize>,
-    sunday: Option<usize>,
-    start_date: Option<usize>,
-    end_date: Option<usize>,
-}
-
-impl<'a> Model for CalendarFile<'a> {
-    ghost use Rattle.gtfs_table.specs.Tables.{Dataset};
-    ghost use Rattle.gtfs_reading.specs.CalendarColumns.{AreCalendarColumns};
-
-    ghost Value = { Dataset };
-
-    ghost view = { λ f. f.tables.now };
-
-    ghost invariant = { AreCalendarColumns };
-}
-
-impl<'a> CalendarFile<'a> {
-    pub(crate) fn new(tables: &'a Tables) -> CalendarFile<'a>
-        ensures { result ≡ tables.now }
-    {
-        CalendarFile {
-            tables,
-            monday: tables.column(File::Calendar, "monday"),
-            tuesday: tables.column(File::Calendar, "tuesday"),
-            wednesday: tables.column(File::Calendar, "wednesday"),
-            thursday: tables.column(File::Calendar, "thursday"),
-            friday: tables.column(File::Calendar, "friday"),
-            saturday: tables.column(File::Calendar, "saturday"),
-            sunday: tables.column(File::Calendar, "sunday"),
-            start_date: tables.column(File::Calendar, "start_date"),
-            end_date: tables.column(File::Calendar, "end_date"),
-        }
-    }
-
-    // The week of a row.
-    pub(crate) fn week(&self, row: usize) -> Week
-        ensures { result ≡ week_in self.now row }
-    {
-        let record = self.tables.record(File::Calendar, row);
-        Week {
-            days: [
-                runs(record.value(self.monday)),
-                runs(record.value(self.tuesday)),
-                runs(record.value(self.wednesday)),
-                runs(record.value(self.thursday)),
-                runs(record.value(self.friday)),
-                runs(record.value(self.saturday)),
-                runs(record.value(self.sunday)),
-            ],
-            start: day(record.value(self.start_date)),
-            end: day(record.value(self.end_date)),
-        }
+// The week of a row. The weekdays stand under the columns 1 to 7, from Monday on.
+pub(crate) fn week(tables: &Tables, columns: &[Option<usize>; 10], row: usize) -> Week
+    requires { columns.now ≡ column_indices tables.now file.Calendar }
+    ensures { result ≡ week_in tables.now row }
+{
+    let record = tables.record(File::Calendar, row);
+    Week {
+        days: [
+            runs(record.value(columns[1])),
+            runs(record.value(columns[2])),
+            runs(record.value(columns[3])),
+            runs(record.value(columns[4])),
+            runs(record.value(columns[5])),
+            runs(record.value(columns[6])),
+            runs(record.value(columns[7])),
+        ],
+        start: day(record.value(columns[8])),
+        end: day(record.value(columns[9])),
     }
 }
 

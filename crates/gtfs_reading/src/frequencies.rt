@@ -13,9 +13,10 @@ ghost use Rattle.gtfs_table.specs.Parts.{parts};
 ghost use Rattle.gtfs_table.specs.declared.file.File.TheVariants as file;
 
 use crate::choices::exact_times;
+use crate::columns::column_indices;
 use crate::numbers::{clock, positive};
 use crate::references::number;
-use gtfs_columns::{Finder, Ids};
+use gtfs_columns::{Finder, Ids, frequencies_columns};
 use gtfs_field::{List, OutOfMemory};
 use gtfs_rows::Frequency;
 use gtfs_table::{File, Tables};
@@ -42,30 +43,14 @@ pub(crate) fn frequencies(
         ≡ map (λ t. t.frequencies) (content_of tables.now).trips) }
     ensures cut { IfOk result (λ f. IsCutInto (length (ids_of trips.now)) f.starts f.rows) }
 {
+    let file = FrequencyFile::new(alloc, tables)?;
     let mut starts = Vec::with_capacity(alloc, trips.len())?;
     let mut rows = Vec::new(alloc);
-    push_frequencies(alloc, tables, trips, &mut starts, &mut rows).and(Ok(TripFrequencies {
-        rows: List::new(rows),
-        starts: List::new(starts),
-    }))
-}
-
-// Fills both lists, which have one owner whichever trip finds no memory.
-fn push_frequencies(
-    alloc: Global,
-    tables: &Tables,
-    trips: &Ids<'_>,
-    starts: &mut Vec<usize>,
-    rows: &mut Vec<Frequency>,
-) -> Result<(), OutOfMemory>
-    requires passes { Passes tables.now }
-    requires trips { trips.now ≡ first_rows tables.now file.Trips (codes "trip_id") }
-    requires no_starts { starts.old.items ≡ [] }
-    requires no_rows { rows.old.items ≡ [] }
-    ensures { OnOk result (AreByTrip tables.now trips.now starts.new.items rows.new.items) }
-{
-    let file = FrequencyFile::new(alloc, tables)?;
-    file.push_by_trip(alloc, trips, starts, rows)
+    file.push_by_trip(alloc, trips, &mut starts, &mut rows)
+        .and(Ok(TripFrequencies {
+            rows: List::new(rows),
+            starts: List::new(starts),
+        }))
 }
 
 // Marks a trip, if there is one.
@@ -83,10 +68,7 @@ fn mark(named: &mut Vec<bool>, trip: Option<usize>)
 struct FrequencyFile<'a> {
     tables: &'a Tables,
     rows: RowsById<'a>,
-    start_time: Option<usize>,
-    end_time: Option<usize>,
-    headway_secs: Option<usize>,
-    exact_times: Option<usize>,
+    columns: [Option<usize>; 5],
 }
 
 impl<'a> Model for FrequencyFile<'a> {
@@ -104,21 +86,15 @@ impl<'a> FrequencyFile<'a> {
     fn new(alloc: Global, tables: &'a Tables) -> Result<FrequencyFile<'a>, OutOfMemory>
         ensures { IfOk result (λ file. file ≡ tables.now) }
     {
-        let trip_id = tables.column(File::Frequencies, "trip_id");
-        let start_time = tables.column(File::Frequencies, "start_time");
-        let end_time = tables.column(File::Frequencies, "end_time");
-        let headway_secs = tables.column(File::Frequencies, "headway_secs");
-        let exact_times = tables.column(File::Frequencies, "exact_times");
+        let columns = column_indices(tables, File::Frequencies, &frequencies_columns());
         Ok(FrequencyFile {
             tables,
-            rows: RowsById::new(alloc, tables, File::Frequencies, trip_id)?,
-            start_time,
-            end_time,
-            headway_secs,
-            exact_times,
+            rows: RowsById::new(alloc, tables, File::Frequencies, columns[0])?,
+            columns,
         })
     }
 
+    // Fills both lists, which have one owner whichever trip finds no memory.
     fn push_by_trip(
         &self,
         alloc: Global,
@@ -146,7 +122,7 @@ impl<'a> FrequencyFile<'a> {
     fn named_trips(&self, alloc: Global, trips: &Ids<'_>) -> Result<Vec<bool>, OutOfMemory>
         ensures { IfOk result (λ named. AreNamedTrips self.now trips.now named.items) }
     {
-        let trip_id = self.tables.column(File::Frequencies, "trip_id");
+        let trip_id = self.columns[0];
         let mut named = Vec::new(alloc);
         named.resize(trips.len(), false)?;
         let mut trips = Finder::new(trips);
@@ -187,25 +163,11 @@ impl<'a> FrequencyFile<'a> {
             (map (frequency_in self.now) (rows_of self.now file.Frequencies trip_id.now))) }
     {
         let mut periods = Vec::new(alloc);
-        self.push_periods(self.rows.of(trip_id), &mut periods)?;
-        periods.sort_unstable_by_key(|period| period.start_time.seconds());
-        Ok(periods)
-    }
-
-    // The frequencies of rows, each of which stands beside its trip.
-    fn push_periods(
-        &self,
-        rows: &[(&str, usize)],
-        periods: &mut Vec<Frequency>,
-    ) -> Result<(), OutOfMemory>
-        requires { periods.old.items ≡ [] }
-        ensures { OnOk result (map frequency_of periods.new.items
-            ≡ map (frequency_in self.now) (map (λ r. r.1) rows.now)) }
-    {
-        for row in rows {
+        for row in self.rows.of(trip_id) {
             periods.push(self.frequency(row.1))?;
         }
-        Ok(())
+        periods.sort_unstable_by_key(|period| period.start_time.seconds());
+        Ok(periods)
     }
 
     // The frequency of a row.
@@ -214,10 +176,10 @@ impl<'a> FrequencyFile<'a> {
     {
         let record = self.tables.record(File::Frequencies, row);
         Frequency {
-            start_time: clock(record.value(self.start_time)),
-            end_time: clock(record.value(self.end_time)),
-            headway_secs: positive(record.value(self.headway_secs)),
-            exact_times: exact_times(record.value(self.exact_times)),
+            start_time: clock(record.value(self.columns[1])),
+            end_time: clock(record.value(self.columns[2])),
+            headway_secs: positive(record.value(self.columns[3])),
+            exact_times: exact_times(record.value(self.columns[4])),
         }
     }
 }

@@ -16,8 +16,9 @@
 //! their keys, frequencies by trip and start. An id is looked up once and is its number in that
 //! order from then on; no row is looked for in a list from its beginning.
 //!
-//! Each file has a module, with its columns found once: `agencies`, `stops`, `routes`, `trips`,
-//! `transfers`, `frequencies`, and `calendar` and `dates`, of which `services` are made. The ids of
+//! Each file has a module: `agencies`, `stops`, `routes`, `trips`, `transfers`, `frequencies`, and
+//! `calendar` and `dates`, of which `services` are made. `columns` finds the columns of a file once,
+//! in the order of its schema, and a row is read by their places there. The ids of
 //! files are [`NetworkIds`](gtfs_columns::NetworkIds), and `service_ids` has those of services,
 //! which come of two files. `texts`, `numbers`, `choices` and `references` read a field. `gathered`
 //! has the lists of stop times while they are made, and `headsigns` the headsigns by number.
@@ -31,6 +32,7 @@
 mod agencies;
 mod calendar;
 mod choices;
+mod columns;
 mod dates;
 mod draft;
 mod feed_rows;

@@ -1,20 +1,20 @@
 //! The services, with their rows of calendar.txt and calendar_dates.txt (GTFS Schedule Reference,
 //! both files).
 
-ghost use Rattle.std.specs.Prelude.{◌≡◌, ℕ, List, [], IfOk, OnOk, codes, map, option_map};
+ghost use Rattle.std.specs.Prelude.{◌≡◌, [], IfOk, OnOk, map, option_map};
 ghost use Rattle.gtfs_columns.specs.Calendars.{first_service_row, week_in};
 ghost use Rattle.gtfs_columns.specs.Problems.{Passes};
 ghost use Rattle.gtfs_days.specs.Service.{IsOrdered};
-ghost use Rattle.gtfs_reading.specs.CalendarRows.{rows_with};
-ghost use Rattle.gtfs_trip_rules.specs.RowsById.{rows_of};
 ghost use Rattle.gtfs_reading.specs.ServiceIds.{service_ids};
 ghost use Rattle.gtfs_rows.specs.Reading.{content_of, service_row_in};
 ghost use Rattle.gtfs_rows.specs.Views.{service_of};
 ghost use Rattle.gtfs_table.specs.declared.file.File.TheVariants as file;
 
-use crate::calendar::CalendarFile;
-use crate::dates::DatesFile;
+use crate::calendar::week;
+use crate::columns::column_indices;
+use crate::dates::exceptions;
 use crate::service_ids::ServiceIds;
+use gtfs_columns::{calendar_columns, calendar_dates_columns};
 use gtfs_days::{Service, Week};
 use gtfs_field::{List, OutOfMemory, Text};
 use gtfs_rows::ServiceRow;
@@ -33,43 +33,18 @@ pub(crate) fn services(
     requires ids { ids.now ≡ service_ids tables.now }
     ensures { IfOk result (λ rows. map service_of rows ≡ (content_of tables.now).services) }
 {
-    let mut services = Vec::with_capacity(alloc, ids.len())?;
-    push_services(alloc, tables, ids, &mut services).and(Ok(List::new(services)))
-}
-
-// Fills a list, which has one owner whichever service finds no memory.
-fn push_services(
-    alloc: Global,
-    tables: &Tables,
-    ids: &ServiceIds<'_>,
-    services: &mut Vec<ServiceRow>,
-) -> Result<(), OutOfMemory>
-    requires passes { Passes tables.now }
-    requires none { services.old.items ≡ [] }
-    ensures { OnOk result (map service_of services.new.items
-        ≡ map (service_row_in tables.now) ids.now) }
-{
     let calendars = Calendars::new(alloc, tables)?;
-    calendars.push_services(alloc, ids, services)
+    let mut services = Vec::with_capacity(alloc, ids.len())?;
+    calendars
+        .push_services(alloc, ids, &mut services)
+        .and(Ok(List::new(services)))
 }
 
-// The rows of one of both files by service.
-fn rows_by_service<'a>(
-    alloc: Global,
-    tables: &'a Tables,
-    file: File,
-) -> Result<RowsById<'a>, OutOfMemory>
-    ensures { IfOk result (λ found. (id : List ℕ) → rows_of found id
-        ≡ rows_with tables.now file (codes "service_id") id) }
-{
-    let service_id = tables.column(file, "service_id");
-    RowsById::new(alloc, tables, file, service_id)
-}
-
-// Both calendar files with their rows by service.
+// Both calendar files with their columns found, and their rows by service.
 struct Calendars<'a> {
-    calendar: CalendarFile<'a>,
-    dates: DatesFile<'a>,
+    tables: &'a Tables,
+    week_columns: [Option<usize>; 10],
+    date_columns: [Option<usize>; 3],
     week_rows: RowsById<'a>,
     date_rows: RowsById<'a>,
 }
@@ -78,8 +53,9 @@ struct Calendars<'a> {
 impl Drop for Calendars<'_> {
     fn drop(self) {
         let Calendars {
-            calendar: _,
-            dates: _,
+            tables: _,
+            week_columns: _,
+            date_columns: _,
             week_rows: _,
             date_rows: _,
         } = self;
@@ -92,7 +68,7 @@ impl<'a> Model for Calendars<'a> {
 
     ghost Value = { Dataset };
 
-    ghost view = { λ c. c.calendar };
+    ghost view = { λ c. c.tables.now };
 
     ghost invariant = { AreCalendars };
 }
@@ -101,16 +77,20 @@ impl<'a> Calendars<'a> {
     fn new(alloc: Global, tables: &'a Tables) -> Result<Calendars<'a>, OutOfMemory>
         ensures { IfOk result (λ calendars. calendars ≡ tables.now) }
     {
-        let week_rows = rows_by_service(alloc, tables, File::Calendar)?;
-        let date_rows = rows_by_service(alloc, tables, File::CalendarDates)?;
+        let week_columns = column_indices(tables, File::Calendar, &calendar_columns());
+        let date_columns = column_indices(tables, File::CalendarDates, &calendar_dates_columns());
+        let week_rows = RowsById::new(alloc, tables, File::Calendar, week_columns[0])?;
+        let date_rows = RowsById::new(alloc, tables, File::CalendarDates, date_columns[0])?;
         Ok(Calendars {
-            calendar: CalendarFile::new(tables),
-            dates: DatesFile::new(tables),
+            tables,
+            week_columns,
+            date_columns,
             week_rows,
             date_rows,
         })
     }
 
+    // Fills a list, which has one owner whichever service finds no memory.
     fn push_services(
         &self,
         alloc: Global,
@@ -134,7 +114,8 @@ impl<'a> Calendars<'a> {
         ensures { IfOk result (λ s. service_of s ≡ service_row_in self.now id.now) }
     {
         let week = self.week(id);
-        let exceptions = self.dates.exceptions(alloc, self.date_rows.of(id))?;
+        let rows = self.date_rows.of(id);
+        let exceptions = exceptions(alloc, self.tables, &self.date_columns, rows)?;
         Ok(ServiceRow {
             service_id: Text::copy_of(alloc, id)?,
             service: Service::new(alloc, week, &exceptions)?,
@@ -150,7 +131,7 @@ impl<'a> Calendars<'a> {
     {
         match self.week_rows.of(id) {
             [] => None,
-            [first, ..] => Some(self.calendar.week(first.1)),
+            [first, ..] => Some(week(self.tables, &self.week_columns, first.1)),
         }
     }
 }

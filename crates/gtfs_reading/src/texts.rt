@@ -54,18 +54,13 @@ pub(crate) fn read_optional_text(
 ) -> Result<(), OutOfMemory>
     ensures { OnOk result (into.new ≡ word_of kind.text (field_under fields.now column)) }
 {
-    *into = optional_plain(alloc, fields.value(column))?;
-    Ok(())
-}
-
-// The text with a space in place of each control character, and none where it is empty.
-fn optional_plain(alloc: Global, text: &str) -> Result<Option<Text>, OutOfMemory>
-    ensures { IfOk result (λ t. t ≡ word_of kind.text text.now) }
-{
+    let text = fields.value(column);
     if text.is_empty() {
-        return Ok(None);
+        *into = None;
+    } else {
+        *into = Some(plain(alloc, text)?);
     }
-    Ok(Some(plain(alloc, text)?))
+    Ok(())
 }
 
 // The text with a space in place of each control character.

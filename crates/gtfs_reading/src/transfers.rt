@@ -5,20 +5,21 @@ ghost use Rattle.std.specs.Prelude.{◌≡◌, [], IfOk, OnOk, codes, map, optio
 ghost use Rattle.gtfs_columns.specs.Problems.{Passes};
 ghost use Rattle.gtfs_columns.specs.steps.Ids.{first_rows};
 ghost use Rattle.gtfs_rows.specs.TransferEnds.{names_ends, transfer_named, transfer_numbers};
+ghost use Rattle.gtfs_reading.specs.ColumnIndices.{column_indices};
 ghost use Rattle.gtfs_reading.specs.Named.{ids_of};
 ghost use Rattle.gtfs_rows.specs.Reading.{content_of, transfer_in};
 ghost use Rattle.gtfs_table.specs.Rows.{is_row, records_in, rows};
 ghost use Rattle.gtfs_table.specs.declared.file.File.TheVariants as file;
 
 use crate::choices::transfer_type;
+use crate::columns::column_indices;
 use crate::numbers::optional_count;
 use crate::references::{as_route, as_stop, as_trip, number};
-use gtfs_columns::{Finder, Ids};
+use gtfs_columns::{Finder, Ids, transfers_columns};
 use gtfs_field::{List, OutOfMemory};
 use gtfs_rows::{RouteNo, StopNo, Transfer, TripNo};
 use gtfs_table::{File, Tables};
 use std::alloc::Global;
-use std::marker::Model;
 
 // The transfers by the six parts of their keys.
 pub(crate) fn transfers(
@@ -72,12 +73,13 @@ fn push_in_file_order(
         (ids_of tables.now file.Trips "trip_id")) transfers.new.items
         ≡ true) }
 {
-    let file = TransferFile::new(tables);
+    let columns = column_indices(tables, File::Transfers, &transfers_columns());
     let mut stops = Finder::new(stops);
     let mut routes = Finder::new(routes);
     let mut trips = Finder::new(trips);
     for (row, _) in tables.rows(File::Transfers) {
-        transfers.push(file.transfer(row, &mut stops, &mut routes, &mut trips))?;
+        let transfer = transfer(tables, &columns, row, &mut stops, &mut routes, &mut trips);
+        transfers.push(transfer)?;
     }
     Ok(())
 }
@@ -118,81 +120,40 @@ fn trip_part(trip: Option<TripNo>) -> Option<usize>
     Some(trip.0)
 }
 
-// transfers.txt with its columns found.
-#[derive(Drop)]
-struct TransferFile<'a> {
-    tables: &'a Tables,
-    from_stop_id: Option<usize>,
-    to_stop_id: Option<usize>,
-    from_route_id: Option<usize>,
-    to_route_id: Option<usize>,
-    from_trip_id: Option<usize>,
-    to_trip_id: Option<usize>,
-    transfer_type: Option<usize>,
-    min_transfer_time: Option<usize>,
-}
-
-impl<'a> Model for TransferFile<'a> {
-    ghost use Rattle.gtfs_table.specs.Tables.{Dataset};
-    ghost use Rattle.gtfs_reading.specs.TransferColumns.{AreTransferColumns};
-
-    ghost Value = { Dataset };
-
-    ghost view = { λ f. f.tables.now };
-
-    ghost invariant = { AreTransferColumns };
-}
-
-impl<'a> TransferFile<'a> {
-    fn new(tables: &'a Tables) -> TransferFile<'a>
-        ensures { result ≡ tables.now }
-    {
-        TransferFile {
-            tables,
-            from_stop_id: tables.column(File::Transfers, "from_stop_id"),
-            to_stop_id: tables.column(File::Transfers, "to_stop_id"),
-            from_route_id: tables.column(File::Transfers, "from_route_id"),
-            to_route_id: tables.column(File::Transfers, "to_route_id"),
-            from_trip_id: tables.column(File::Transfers, "from_trip_id"),
-            to_trip_id: tables.column(File::Transfers, "to_trip_id"),
-            transfer_type: tables.column(File::Transfers, "transfer_type"),
-            min_transfer_time: tables.column(File::Transfers, "min_transfer_time"),
-        }
-    }
-
-    // The transfer of a row. What it names is looked up among all stops, routes and trips.
-    fn transfer(
-        &self,
-        row: usize,
-        stops: &mut Finder<'_>,
-        routes: &mut Finder<'_>,
-        trips: &mut Finder<'_>,
-    ) -> Transfer
-        requires passes { Passes self.now }
-        requires row { is_row (records_in self.now file.Transfers) row ≡ true }
-        requires stops { stops.old.ids.now ≡ first_rows self.now file.Stops (codes "stop_id") }
-        requires routes { routes.old.ids.now ≡ first_rows self.now file.Routes (codes "route_id") }
-        requires trips { trips.old.ids.now ≡ first_rows self.now file.Trips (codes "trip_id") }
-        ensures value { transfer_named (ids_of self.now file.Stops "stop_id")
-            (ids_of self.now file.Routes "route_id") (ids_of self.now file.Trips "trip_id") result
-            ≡ transfer_in self.now row }
-        ensures numbers { names_ends (ids_of self.now file.Stops "stop_id")
-            (ids_of self.now file.Routes "route_id") (ids_of self.now file.Trips "trip_id") result
-            ≡ true }
-        ensures stops { stops.new.ids.now ≡ stops.old.ids.now }
-        ensures routes { routes.new.ids.now ≡ routes.old.ids.now }
-        ensures trips { trips.new.ids.now ≡ trips.old.ids.now }
-    {
-        let record = self.tables.record(File::Transfers, row);
-        Transfer {
-            from_stop_id: as_stop(number(stops, record.value(self.from_stop_id))),
-            to_stop_id: as_stop(number(stops, record.value(self.to_stop_id))),
-            from_route_id: as_route(number(routes, record.value(self.from_route_id))),
-            to_route_id: as_route(number(routes, record.value(self.to_route_id))),
-            from_trip_id: as_trip(number(trips, record.value(self.from_trip_id))),
-            to_trip_id: as_trip(number(trips, record.value(self.to_trip_id))),
-            transfer_type: transfer_type(record.value(self.transfer_type)),
-            min_transfer_time: optional_count(record.value(self.min_transfer_time)),
-        }
+// The transfer of a row. What it names is looked up among all stops, routes and trips.
+fn transfer(
+    tables: &Tables,
+    columns: &[Option<usize>; 8],
+    row: usize,
+    stops: &mut Finder<'_>,
+    routes: &mut Finder<'_>,
+    trips: &mut Finder<'_>,
+) -> Transfer
+    requires passes { Passes tables.now }
+    requires columns { columns.now ≡ column_indices tables.now file.Transfers }
+    requires row { is_row (records_in tables.now file.Transfers) row ≡ true }
+    requires stops { stops.old.ids.now ≡ first_rows tables.now file.Stops (codes "stop_id") }
+    requires routes { routes.old.ids.now ≡ first_rows tables.now file.Routes (codes "route_id") }
+    requires trips { trips.old.ids.now ≡ first_rows tables.now file.Trips (codes "trip_id") }
+    ensures value { transfer_named (ids_of tables.now file.Stops "stop_id")
+        (ids_of tables.now file.Routes "route_id") (ids_of tables.now file.Trips "trip_id") result
+        ≡ transfer_in tables.now row }
+    ensures numbers { names_ends (ids_of tables.now file.Stops "stop_id")
+        (ids_of tables.now file.Routes "route_id") (ids_of tables.now file.Trips "trip_id") result
+        ≡ true }
+    ensures stops { stops.new.ids.now ≡ stops.old.ids.now }
+    ensures routes { routes.new.ids.now ≡ routes.old.ids.now }
+    ensures trips { trips.new.ids.now ≡ trips.old.ids.now }
+{
+    let record = tables.record(File::Transfers, row);
+    Transfer {
+        from_stop_id: as_stop(number(stops, record.value(columns[0]))),
+        to_stop_id: as_stop(number(stops, record.value(columns[1]))),
+        from_route_id: as_route(number(routes, record.value(columns[2]))),
+        to_route_id: as_route(number(routes, record.value(columns[3]))),
+        from_trip_id: as_trip(number(trips, record.value(columns[4]))),
+        to_trip_id: as_trip(number(trips, record.value(columns[5]))),
+        transfer_type: transfer_type(record.value(columns[6])),
+        min_transfer_time: optional_count(record.value(columns[7])),
     }
 }

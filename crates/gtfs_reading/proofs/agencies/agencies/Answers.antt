@@ -1,4 +1,4 @@
-use Rattle.std.proofs.Common.{◌≡◌, ◌∙◌, ap, map, refl, subst, sym}
+use Rattle.std.proofs.Common.{◌≡◌, ◌∙◌, ap, map, refl, sym}
 use Rattle.gtfs_table.specs.declared.file.File.TheVariants as file
 use Rattle.gtfs_columns.specs.Columns.{id, optional}
 use Rattle.gtfs_columns.specs.steps.Ids.{rows_by_number}
@@ -8,9 +8,6 @@ use Rattle.gtfs_reading.proofs.Filled.{list_filled}
 use Rattle.gtfs_reading.proofs.IdTexts.{content_list}
 use Rattle.gtfs_reading.proofs.agencies.agencies.Goals as goal
 
-pub push_agencies-requires : goal.push_agencies-requires
-push_agencies-requires c = c.in_ok-agencies.ensures.items
-
 pub returns : goal.returns
 returns c =
     let d = c.args.tables.now in
@@ -18,5 +15,4 @@ returns c =
     let content = content_list d c.requires.passes file.Agency "agency_id" (optional "agency_id" id) refl refl (λ r. r.agency_id) (agency_in d) (λ n. refl) in
     list_filled (λ rows. map agency_of rows ≡ (content_of d).agencies) c.push_agencies.result c.and.result items c.new.result c.and.ensures c.new.ensures
     c.push_agencies.ensures (λ listed.
-    subst (λ e. map agency_of items ≡ map (agency_in e) (rows_by_number c.args.ids.now)) c.new-file.ensures listed
-    ∙ ap (λ i. map (agency_in d) (rows_by_number i)) c.requires.ids ∙ sym content)
+    listed ∙ ap (λ i. map (agency_in d) (rows_by_number i)) c.requires.ids ∙ sym content)

@@ -13,24 +13,18 @@ use Rattle.gtfs_reading.proofs.Filled.{filled}
 use Rattle.gtfs_reading.proofs.IdTexts.{content_list}
 use Rattle.gtfs_reading.proofs.frequencies.frequencies.Goals as goal
 
-pub push_frequencies-requires-clause-no_starts : goal.push_frequencies-requires-clause-no_starts
-push_frequencies-requires-clause-no_starts c = c.in_ok-starts.ensures.items
-
-pub push_frequencies-requires-clause-no_rows : goal.push_frequencies-requires-clause-no_rows
-push_frequencies-requires-clause-no_rows c = c.new-rows.ensures.items
-
 pub returns-clause-rows : goal.returns-clause-rows
 returns-clause-rows c =
     let d = c.args.tables.now in
-    filled (λ (f : TripFrequencies). map (map frequency_of) (parts f.starts f.rows) ≡ map (λ t. t.frequencies) (content_of d).trips) c.push_frequencies.result c.and.result _ c.and.ensures
-    c.push_frequencies.ensures (λ are.
-    (λ i. map (map frequency_of) (parts (c.new-2.ensures i) (c.new.ensures i)))
-    ∙ are.rows ∙ ap (λ i. map (λ n. (trip_in d n).frequencies) (rows_by_number i)) c.requires.trips
+    filled (λ (f : TripFrequencies). map (map frequency_of) (parts f.starts f.rows) ≡ map (λ t. t.frequencies) (content_of d).trips) c.push_by_trip.result c.and.result _ c.and.ensures
+    c.push_by_trip.ensures (λ are.
+    (λ i. map (map frequency_of) (parts (c.new-3.ensures i) (c.new-2.ensures i)))
+    ∙ are.rows ∙ (λ i. map (λ n. (trip_in (c.in_ok-file.ensures i) n).frequencies) (rows_by_number (c.requires.trips i)))
     ∙ sym (ap (map (λ t. t.frequencies)) (content_list d c.requires.passes file.Trips "trip_id" (required "trip_id" id) refl refl (λ r. r.trip_id) (trip_in d) (λ n. refl))
     ∙ map-map (λ t. t.frequencies) (trip_in d) (rows_by_number (first_rows d file.Trips (codes "trip_id")))))
 
 pub returns-clause-cut : goal.returns-clause-cut
 returns-clause-cut c =
-    filled (λ (f : TripFrequencies). IsCutInto (length (ids_of c.args.trips.now)) f.starts f.rows) c.push_frequencies.result c.and.result _ c.and.ensures
-    c.push_frequencies.ensures (λ are.
-    subst (λ (p : List ℕ × List FrequencyRow). IsCutInto (length (ids_of c.args.trips.now)) p.0 p.1) (λ i. (sym c.new-2.ensures i, sym c.new.ensures i)) are.cut)
+    filled (λ (f : TripFrequencies). IsCutInto (length (ids_of c.args.trips.now)) f.starts f.rows) c.push_by_trip.result c.and.result _ c.and.ensures
+    c.push_by_trip.ensures (λ are.
+    subst (λ (p : List ℕ × List FrequencyRow). IsCutInto (length (ids_of c.args.trips.now)) p.0 p.1) (λ i. (sym c.new-3.ensures i, sym c.new-2.ensures i)) are.cut)

@@ -1,9 +1,8 @@
-use Rattle.std.proofs.Common.{◌≡◌, ◌∙◌, ap, codes, map, refl, subst, sym, true}
+use Rattle.std.proofs.Common.{◌≡◌, ◌∙◌, ap, map, refl, sym, true}
 use Rattle.std.specs.List.{list_all}
 use Rattle.gtfs_table.specs.declared.file.File.TheVariants as file
 use Rattle.gtfs_columns.specs.Columns.{id, required}
-use Rattle.gtfs_columns.specs.Problems.{Passes}
-use Rattle.gtfs_columns.specs.steps.Ids.{first_rows, rows_by_number}
+use Rattle.gtfs_columns.specs.steps.Ids.{rows_by_number}
 use Rattle.gtfs_rows.specs.Reading.{content_of, route_in}
 use Rattle.gtfs_reading.specs.Named.{ids_of}
 use Rattle.gtfs_rows.specs.NamedRows.{names_agency, route_named}
@@ -11,26 +10,13 @@ use Rattle.gtfs_reading.proofs.Filled.{list_filled}
 use Rattle.gtfs_reading.proofs.IdTexts.{content_list}
 use Rattle.gtfs_reading.proofs.routes.routes.Goals as goal
 
-pub push_routes-requires-clause-passes : goal.push_routes-requires-clause-passes
-push_routes-requires-clause-passes c = subst Passes (sym c.new-file.ensures) c.requires.passes
-
-pub push_routes-requires-clause-ids : goal.push_routes-requires-clause-ids
-push_routes-requires-clause-ids c = c.requires.ids ∙ ap (λ d. first_rows d file.Routes (codes "route_id")) (sym c.new-file.ensures)
-
-pub push_routes-requires-clause-agencies : goal.push_routes-requires-clause-agencies
-push_routes-requires-clause-agencies c = c.new-finder.ensures ∙ c.requires.agencies ∙ ap (λ d. first_rows d file.Agency (codes "agency_id")) (sym c.new-file.ensures)
-
-pub push_routes-requires-clause-none : goal.push_routes-requires-clause-none
-push_routes-requires-clause-none c = c.in_ok-routes.ensures.items
-
 pub returns-clause-rows : goal.returns-clause-rows
 returns-clause-rows c =
     let d = c.args.tables.now in
     let items = c.push_routes.new.routes.items in
     list_filled (λ rows. map (route_named (ids_of d file.Agency "agency_id")) rows ≡ (content_of d).routes) c.push_routes.result c.and.result items c.new.result c.and.ensures c.new.ensures
     c.push_routes.ensures.rows (λ listed.
-    subst (λ e. map (route_named (ids_of e file.Agency "agency_id")) items ≡ map (route_in e) (rows_by_number c.args.ids.now)) c.new-file.ensures listed
-    ∙ ap (λ i. map (route_in d) (rows_by_number i)) c.requires.ids
+    listed ∙ ap (λ i. map (route_in d) (rows_by_number i)) c.requires.ids
     ∙ sym (content_list d c.requires.passes file.Routes "route_id" (required "route_id" id) refl refl (λ r. r.route_id) (route_in d) (λ n. refl)))
 
 pub returns-clause-numbers : goal.returns-clause-numbers
@@ -38,4 +24,4 @@ returns-clause-numbers c =
     let d = c.args.tables.now in
     let items = c.push_routes.new.routes.items in
     list_filled (λ rows. list_all (names_agency (ids_of d file.Agency "agency_id")) rows ≡ true) c.push_routes.result c.and.result items c.new.result c.and.ensures c.new.ensures
-    c.push_routes.ensures.numbers (λ within. subst (λ e. list_all (names_agency (ids_of e file.Agency "agency_id")) items ≡ true) c.new-file.ensures within)
+    c.push_routes.ensures.numbers (λ within. within)

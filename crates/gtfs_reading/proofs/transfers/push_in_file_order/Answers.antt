@@ -1,6 +1,5 @@
-use Rattle.std.proofs.Common.{◌≡◌, ◌∙◌, ap, map, subst, true}
+use Rattle.std.proofs.Common.{◌∙◌, ap, map}
 use Rattle.std.specs.List.{list_all}
-use Rattle.gtfs_table.specs.Rows.{is_row, records_in}
 use Rattle.gtfs_table.specs.declared.file.File.TheVariants as file
 use Rattle.gtfs_table.proofs.RowFacts.{all_taken, listed_more, turn}
 use Rattle.gtfs_rows.specs.Reading.{transfer_in}
@@ -20,28 +19,24 @@ loop-row-init c =
       trips = c.new-trips.ensures ∙ c.requires.trips;
     }
 
-pub transfer-requires-clause-row : goal.transfer-requires-clause-row
-transfer-requires-clause-row c =
+pub transfer-transfer-requires-clause-row : goal.transfer-transfer-requires-clause-row
+transfer-transfer-requires-clause-row c =
     let d = c.args.tables.now in
     let from = c.into_iter-row-iterator.ensures.into_iter_gives ∙ c.rows-row-items.ensures in
     let t = turn d file.Transfers _ c.loop-row.yielded _ from c.loop-row.yielded_by c.in-Some.row c.in-Some.field-0-1 _ c.in-Some.ensures.steps in
-    ap (λ d. is_row (records_in d file.Transfers) c.in-Some.row) c.new-file.ensures ∙ t.is_row
+    t.is_row
 
 pub loop-row-preserved : goal.loop-row-preserved
 loop-row-preserved c =
     let d = c.args.tables.now in
-    let said : (transfer_named (ids_of d file.Stops "stop_id") (ids_of d file.Routes "route_id") (ids_of d file.Trips "trip_id")) c.transfer.result ≡ transfer_in d c.in-Some.row =
-    subst (λ d. (transfer_named (ids_of d file.Stops "stop_id") (ids_of d file.Routes "route_id") (ids_of d file.Trips "trip_id")) c.transfer.result ≡ transfer_in d c.in-Some.row) c.new-file.ensures c.transfer.ensures.value in
-    let named : (names_ends (ids_of d file.Stops "stop_id") (ids_of d file.Routes "route_id") (ids_of d file.Trips "trip_id")) c.transfer.result ≡ true =
-    subst (λ d. (names_ends (ids_of d file.Stops "stop_id") (ids_of d file.Routes "route_id") (ids_of d file.Trips "trip_id")) c.transfer.result ≡ true) c.new-file.ensures c.transfer.ensures.numbers in
     record {
       listed = ap (map (transfer_named (ids_of d file.Stops "stop_id") (ids_of d file.Routes "route_id") (ids_of d file.Trips "trip_id"))) c.in_ok-push.ensures.items
-          ∙ listed_more c.loop-row.yielded c.in-Some.row c.in-Some.field-0-1 (transfer_named (ids_of d file.Stops "stop_id") (ids_of d file.Routes "route_id") (ids_of d file.Trips "trip_id")) (transfer_in d) c.loop-row.transfers.items c.transfer.result c.loop-row.invariant.listed said;
+          ∙ listed_more c.loop-row.yielded c.in-Some.row c.in-Some.field-0-1 (transfer_named (ids_of d file.Stops "stop_id") (ids_of d file.Routes "route_id") (ids_of d file.Trips "trip_id")) (transfer_in d) c.loop-row.transfers.items c.transfer-transfer.result c.loop-row.invariant.listed c.transfer-transfer.ensures.value;
       within = ap (list_all (names_ends (ids_of d file.Stops "stop_id") (ids_of d file.Routes "route_id") (ids_of d file.Trips "trip_id"))) c.in_ok-push.ensures.items
-          ∙ all_next (names_ends (ids_of d file.Stops "stop_id") (ids_of d file.Routes "route_id") (ids_of d file.Trips "trip_id")) c.loop-row.transfers.items c.transfer.result c.loop-row.invariant.within named;
-      stops = c.transfer.ensures.stops ∙ c.loop-row.invariant.stops;
-      routes = c.transfer.ensures.routes ∙ c.loop-row.invariant.routes;
-      trips = c.transfer.ensures.trips ∙ c.loop-row.invariant.trips;
+          ∙ all_next (names_ends (ids_of d file.Stops "stop_id") (ids_of d file.Routes "route_id") (ids_of d file.Trips "trip_id")) c.loop-row.transfers.items c.transfer-transfer.result c.loop-row.invariant.within c.transfer-transfer.ensures.numbers;
+      stops = c.transfer-transfer.ensures.stops ∙ c.loop-row.invariant.stops;
+      routes = c.transfer-transfer.ensures.routes ∙ c.loop-row.invariant.routes;
+      trips = c.transfer-transfer.ensures.trips ∙ c.loop-row.invariant.trips;
     }
 
 pub returns-clause-rows : goal.returns-clause-rows

@@ -1,10 +1,11 @@
-use Rattle.std.proofs.Common.{◌≡◌, ◌∙◌, ◌++◌, ◌∷◌, [], Bool, List, ℕ, ap, codes, length, subst, sym, true}
+use Rattle.std.proofs.Common.{◌≡◌, ◌∙◌, ◌++◌, ◌∷◌, [], Bool, List, ℕ, ap, length, subst, sym, true}
 use Rattle.std.specs.List.{All}
-use Rattle.gtfs_table.proofs.RowFacts.{all_taken, numbers_more, turn, value_is}
-use Rattle.gtfs_table.specs.Rows.{numbers, records_in, rows}
+use Rattle.gtfs_table.proofs.RowFacts.{all_taken, numbers_more, turn}
+use Rattle.gtfs_table.specs.Rows.{numbers, rows}
 use Rattle.gtfs_table.specs.declared.file.File.TheVariants as file
 use Rattle.gtfs_columns.specs.steps.Ids.{number_with}
 use Rattle.gtfs_reading.specs.ByTrip.{is_marked, named_trip, with_mark}
+use Rattle.gtfs_reading.proofs.Fields.{field_at}
 use Rattle.gtfs_reading.proofs.NamedTrips.{as-many, marked-more}
 use Rattle.gtfs_reading.proofs.frequencies.FrequencyFile.named_trips.Goals as goal
 
@@ -16,7 +17,7 @@ loop-record-preserved c =
     let from = c.into_iter-record-iterator.ensures.into_iter_gives ∙ c.rows-record-items.ensures in
     let n = c.in-Some.field-0-0 in
     let t = turn own file.Frequencies _ c.loop-record.yielded _ from c.loop-record.yielded_by n c.in-Some.record _ c.in-Some.ensures.steps in
-    let id = c.value.ensures ∙ value_is (records_in own file.Frequencies) n c.in-Some.record (codes "trip_id") c.column-trip_id.result t.record_is c.column-trip_id.ensures in
+    let id = c.value.ensures ∙ field_at own file.Frequencies n _ _ t.record_is c.self.invariant.columns 0 in
     let trip : c.number.result ≡ named_trip d trips n =
     c.number.ensures.number ∙ (λ i. number_with (c.loop-record.invariant.ids i) (id i)) ∙ ap (λ e. named_trip e trips n) c.self.view_is in
     let marks : c.mark.new.named.items ≡ with_mark c.loop-record.named.items (named_trip d trips n) = c.mark.ensures ∙ ap (with_mark c.loop-record.named.items) trip in

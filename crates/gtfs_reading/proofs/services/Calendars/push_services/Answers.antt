@@ -4,12 +4,6 @@ use Rattle.gtfs_rows.specs.Views.{service_of}
 use Rattle.gtfs_reading.proofs.Fields.{listed_all, listed_next_of}
 use Rattle.gtfs_reading.proofs.services.Calendars.push_services.Goals as goal
 
-pub loop-number-init : goal.loop-number-init
-loop-number-init c = record {
-  listed = ap (map service_of) c.requires.none;
-  end = c.len-number-end.ensures;
-}
-
 pub loop-number-preserved : goal.loop-number-preserved
 loop-number-preserved c =
     let d = c.args.self.now in

@@ -13,11 +13,11 @@ pub new-requires-clause-once : goal.new-requires-clause-once
 new-requires-clause-once c =
     let d = c.args.self.now in
     let id = c.args.id.now in
-    let rows_are : map (λ r. r.1) c.of.result.now ≡ service_rows d file.CalendarDates id =
-    c.of.ensures ∙ c.self.invariant.date_rows id ∙ ap (λ e. rows_with e file.CalendarDates (codes "service_id") id) c.self.view_is
+    let rows_are : map (λ r. r.1) c.of-rows.result.now ≡ service_rows d file.CalendarDates id =
+    c.of-rows.ensures ∙ c.self.invariant.date_rows id ∙ ap (λ e. rows_with e file.CalendarDates (codes "service_id") id) c.self.view_is
     ∙ dates_named d c.requires id in
     let are : c.deref.result.now ≡ map (exception_in d) (service_rows d file.CalendarDates id) =
-    c.deref.ensures.value ∙ c.in_ok-exceptions.ensures ∙ ap (λ e. map (exception_in e) (map (λ r. r.1) c.of.result.now)) (c.self.invariant.dates ∙ c.self.view_is)
+    c.deref.ensures.value ∙ c.in_ok-exceptions.ensures ∙ ap (λ e. map (exception_in e) (map (λ r. r.1) c.of-rows.result.now)) c.self.view_is
     ∙ ap (map (exception_in d)) rows_are in
     subst NamesEachDayOnce (sym are) (days_once d c.requires id)
 
@@ -25,11 +25,11 @@ pub returns : goal.returns
 returns c =
     let d = c.args.self.now in
     let id = c.args.id.now in
-    let rows_are : map (λ r. r.1) c.of.result.now ≡ service_rows d file.CalendarDates id =
-    c.of.ensures ∙ c.self.invariant.date_rows id ∙ ap (λ e. rows_with e file.CalendarDates (codes "service_id") id) c.self.view_is
+    let rows_are : map (λ r. r.1) c.of-rows.result.now ≡ service_rows d file.CalendarDates id =
+    c.of-rows.ensures ∙ c.self.invariant.date_rows id ∙ ap (λ e. rows_with e file.CalendarDates (codes "service_id") id) c.self.view_is
     ∙ dates_named d c.requires id in
     let are : c.deref.result.now ≡ map (exception_in d) (service_rows d file.CalendarDates id) =
-    c.deref.ensures.value ∙ c.in_ok-exceptions.ensures ∙ ap (λ e. map (exception_in e) (map (λ r. r.1) c.of.result.now)) (c.self.invariant.dates ∙ c.self.view_is)
+    c.deref.ensures.value ∙ c.in_ok-exceptions.ensures ∙ ap (λ e. map (exception_in e) (map (λ r. r.1) c.of-rows.result.now)) c.self.view_is
     ∙ ap (map (exception_in d)) rows_are in
     λ i. record {
       service_id = c.in_ok-copy_of.ensures i;

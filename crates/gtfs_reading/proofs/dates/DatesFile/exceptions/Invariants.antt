@@ -1,7 +1,0 @@
-use Rattle.std.proofs.Common.{◌≡◌, map, take}
-use Rattle.gtfs_columns.specs.Calendars.{exception_in}
-use Rattle.gtfs_reading.proofs.dates.DatesFile.exceptions.Given as goal
-
--- the rows so far
-abbrev pub invariant-loop-row : goal.invariant-loop-row
-invariant-loop-row l = l.exceptions.items ≡ map (exception_in l.self) (map (λ r. r.1) (take l.row-index l.rows))

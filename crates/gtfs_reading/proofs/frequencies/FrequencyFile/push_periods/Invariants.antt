@@ -1,8 +1,0 @@
-use Rattle.std.proofs.Common.{◌≡◌, map, take}
-use Rattle.gtfs_rows.specs.Reading.{frequency_in}
-use Rattle.gtfs_rows.specs.Views.{frequency_of}
-use Rattle.gtfs_reading.proofs.frequencies.FrequencyFile.push_periods.Given as goal
-
--- the rows so far
-abbrev pub invariant-loop-row : goal.invariant-loop-row
-invariant-loop-row l = map frequency_of l.periods.items ≡ map (frequency_in l.self) (map (λ r. r.1) (take l.row-index l.rows))
