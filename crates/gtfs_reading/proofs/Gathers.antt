@@ -20,7 +20,7 @@ use Rattle.gtfs_table.specs.Tables.{Dataset}
 use Rattle.gtfs_table.specs.declared.file.File.TheVariants as file
 use Rattle.gtfs_columns.specs.Problems.{Passes}
 use Rattle.gtfs_columns.specs.Rows.{word_in}
-use Rattle.gtfs_trip_rules.specs.declared.trips.row.StopTime.{StopTime}
+use Rattle.gtfs_stop_times.specs.declared.stop_time.StopTime.{StopTime}
 use Rattle.gtfs_rules.specs.StopTimes.{AreStopTimes, SaysStopTime, stop_time_cmp}
 use Rattle.gtfs_rows.specs.Reading.{content_of, stop_row_in}
 use Rattle.gtfs_rows.specs.Rows.{StopRow as StopRowOf}
@@ -29,7 +29,7 @@ use Rattle.gtfs_reading.specs.FirstNamed.{each_once}
 use Rattle.gtfs_reading.specs.Gathering.{AreGathered, AreListsOf, IsEmptyFor, by_trip}
 use Rattle.gtfs_reading.specs.StopTimeDraft.{AreCut, lists_with}
 use Rattle.gtfs_reading.specs.declared.gathered.GatheredLists.{GatheredLists}
-use Rattle.gtfs_trip_rules.specs.Headsigns.{rows_with, with_headsign_at}
+use Rattle.gtfs_stop_times.specs.Headsigns.{rows_with, with_headsign_at}
 use Rattle.gtfs_rows.specs.Headsigns.{AddsOnly, AreDistinct, KeepsHeadsigns, NamesHeadsign}
 use Rattle.gtfs_reading.specs.HeadsignIndex.{with_headsign}
 use Rattle.gtfs_reading.specs.StopTimeLists.{AreStopTimesOf, content_stop_ids, has_headsign, is_number}

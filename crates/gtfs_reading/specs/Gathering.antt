@@ -4,12 +4,12 @@ use Rattle.std.specs.List.{All, list_all, list_any}
 use Rattle.csv.specs.Records.{Rising}
 use Rattle.gtfs_table.specs.Parts.{parts}
 use Rattle.gtfs_table.specs.Tables.{Dataset}
-use Rattle.gtfs_trip_rules.specs.declared.trips.row.StopTime.{StopTime}
+use Rattle.gtfs_stop_times.specs.declared.stop_time.StopTime.{StopTime}
 use Rattle.gtfs_rows.specs.Reading.{content_of, stop_row_in}
 use Rattle.gtfs_reading.specs.FirstNamed.{each_once}
 use Rattle.gtfs_reading.specs.StopTimeLists.{content_stop_ids, has_headsign}
 use Rattle.gtfs_rows.specs.NamedRows.{has_numbers_below, stop_row_named}
-use Rattle.gtfs_trip_rules.specs.Headsigns.{rows_with}
+use Rattle.gtfs_stop_times.specs.Headsigns.{rows_with}
 use Rattle.gtfs_rows.specs.Headsigns.{AreDistinct}
 use Rattle.gtfs_reading.specs.declared.gathered.Gathered.{Gathered}
 use Rattle.gtfs_reading.specs.declared.gathered.GatheredLists.{GatheredLists}

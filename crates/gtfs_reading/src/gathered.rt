@@ -11,9 +11,8 @@ ghost use Rattle.gtfs_table.specs.declared.file.File.TheVariants as file;
 
 use crate::headsigns::Headsigns;
 use gtfs_field::{List, OutOfMemory, Text};
-use gtfs_rules::StopTime;
+use gtfs_stop_times::{HeadsignedRows, HeadsignedStopTimes, StopTime};
 use gtfs_table::{File, Tables};
-use gtfs_trip_rules::{HeadsignedRows, HeadsignedStopTimes};
 use std::alloc::Global;
 use std::hash::RandomState;
 

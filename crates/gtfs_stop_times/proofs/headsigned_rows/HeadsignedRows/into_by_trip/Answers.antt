@@ -1,0 +1,69 @@
+use Rattle.std.proofs.Common.{◌≡◌, ◌<◌, ◌∙◌, ℕ, ap, get_or, length, map, subst, sym}
+use Rattle.std.specs.List.{All}
+use Rattle.std.specs.Prelude.{IfSome}
+use Rattle.csv.specs.Records.{Rising}
+use Rattle.gtfs_stop_times.specs.ByTrip.{AreWithin}
+use Rattle.gtfs_table.specs.Parts.{parts}
+use Rattle.gtfs_stop_times.specs.Headsigns.{numbers_in}
+use Rattle.gtfs_stop_times.proofs.HeadsignedFacts.{in-ranges}
+use Rattle.gtfs_stop_times.proofs.headsigned_rows.HeadsignedRows.into_by_trip.Goals as goal
+
+pub at_ranges-requires-clause-within : goal.at_ranges-requires-clause-within
+at_ranges-requires-clause-within c =
+    let k = c.self.inside in
+    let starts = c.args.starts in
+    let ranges = c.in-Some.ranges.items in
+    let same = c.self.view_is in
+    let found : map numbers_in ranges ≡ parts starts k.order =
+    rw (← c.as_slice.ensures) (subst (λ o. IfSome o (λ rs. map numbers_in rs.items ≡ parts c.as_slice.result.now k.order)) c.in-Some.is c.in_ok-ranges.ensures.numbers) in
+    let within : (size : ℕ) → All (λ n. n < size) k.order → AreWithin size ranges =
+    subst (λ o. IfSome o (λ rs. (size : ℕ) → All (λ n. n < size) k.order → AreWithin size rs.items)) c.in-Some.is c.in_ok-ranges.ensures.within in
+    let rising = subst (λ rs. Rising 0 starts (length rs)) (sym same) c.requires.rising in
+    let first = ap (λ rs. get_or starts 0 (length rs)) same ∙ c.requires.from_first in
+    let have = in-ranges k.rows.items k.order starts ranges c.self.invariant found within rising first in
+    have.within
+
+pub at_ranges-requires-clause-len : goal.at_ranges-requires-clause-len
+at_ranges-requires-clause-len c =
+    let k = c.self.inside in
+    let starts = c.args.starts in
+    let ranges = c.in-Some.ranges.items in
+    let same = c.self.view_is in
+    let found : map numbers_in ranges ≡ parts starts k.order =
+    rw (← c.as_slice.ensures) (subst (λ o. IfSome o (λ rs. map numbers_in rs.items ≡ parts c.as_slice.result.now k.order)) c.in-Some.is c.in_ok-ranges.ensures.numbers) in
+    let within : (size : ℕ) → All (λ n. n < size) k.order → AreWithin size ranges =
+    subst (λ o. IfSome o (λ rs. (size : ℕ) → All (λ n. n < size) k.order → AreWithin size rs.items)) c.in-Some.is c.in_ok-ranges.ensures.within in
+    let rising = subst (λ rs. Rising 0 starts (length rs)) (sym same) c.requires.rising in
+    let first = ap (λ rs. get_or starts 0 (length rs)) same ∙ c.requires.from_first in
+    let have = in-ranges k.rows.items k.order starts ranges c.self.invariant found within rising first in
+    have.len ∙ sym c.len.ensures
+
+pub returns-in-Some-clause-rows : goal.returns-in-Some-clause-rows
+returns-in-Some-clause-rows c =
+    let k = c.self.inside in
+    let starts = c.args.starts in
+    let ranges = c.in-Some.ranges.items in
+    let same = c.self.view_is in
+    let found : map numbers_in ranges ≡ parts starts k.order =
+    rw (← c.as_slice.ensures) (subst (λ o. IfSome o (λ rs. map numbers_in rs.items ≡ parts c.as_slice.result.now k.order)) c.in-Some.is c.in_ok-ranges.ensures.numbers) in
+    let within : (size : ℕ) → All (λ n. n < size) k.order → AreWithin size ranges =
+    subst (λ o. IfSome o (λ rs. (size : ℕ) → All (λ n. n < size) k.order → AreWithin size rs.items)) c.in-Some.is c.in_ok-ranges.ensures.within in
+    let rising = subst (λ rs. Rising 0 starts (length rs)) (sym same) c.requires.rising in
+    let first = ap (λ rs. get_or starts 0 (length rs)) same ∙ c.requires.from_first in
+    let have = in-ranges k.rows.items k.order starts ranges c.self.invariant found within rising first in
+    ap (λ t. t.rows) c.at_ranges.ensures ∙ have.rows ∙ same
+
+pub returns-in-Some-clause-starts : goal.returns-in-Some-clause-starts
+returns-in-Some-clause-starts c =
+    let k = c.self.inside in
+    let starts = c.args.starts in
+    let ranges = c.in-Some.ranges.items in
+    let same = c.self.view_is in
+    let found : map numbers_in ranges ≡ parts starts k.order =
+    rw (← c.as_slice.ensures) (subst (λ o. IfSome o (λ rs. map numbers_in rs.items ≡ parts c.as_slice.result.now k.order)) c.in-Some.is c.in_ok-ranges.ensures.numbers) in
+    let within : (size : ℕ) → All (λ n. n < size) k.order → AreWithin size ranges =
+    subst (λ o. IfSome o (λ rs. (size : ℕ) → All (λ n. n < size) k.order → AreWithin size rs.items)) c.in-Some.is c.in_ok-ranges.ensures.within in
+    let rising = subst (λ rs. Rising 0 starts (length rs)) (sym same) c.requires.rising in
+    let first = ap (λ rs. get_or starts 0 (length rs)) same ∙ c.requires.from_first in
+    let have = in-ranges k.rows.items k.order starts ranges c.self.invariant found within rising first in
+    ap (λ t. t.starts) c.at_ranges.ensures ∙ have.starts
