@@ -13,7 +13,7 @@ use Rattle.gtfs_stop_times.specs.declared.stop_row.StopRow.{StopRow}
 use Rattle.gtfs_stop_times.proofs.Turns.{parts-joined, parts-map, starts-parts}
 use Rattle.gtfs_field.proofs.ListFacts.{range-push}
 use Rattle.gtfs_table.specs.Parts.{parts, starts_of}
-use Rattle.gtfs_stop_times.specs.Headsigns.{numbers_in, rows_at}
+use Rattle.gtfs_stop_times.specs.Headsigned.{numbers_in, rows_at}
 use Rattle.gtfs_stop_times.specs.KeptLists.{no_row}
 
 -- ---- rows that follow each other

@@ -1,7 +1,6 @@
 pub mod ByTrip
 pub mod Choices
 pub mod Headsigned
-pub mod Headsigns
 pub mod Joined
 pub mod KeptLists
 pub mod KeptStretches

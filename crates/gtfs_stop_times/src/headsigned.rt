@@ -1,26 +1,33 @@
-ghost use Rattle.std.specs.Prelude.{◌≡◌, ◌∷◌, ◌++◌, ◌<◌, [], length, nat_eq, slice_get, slice_index_or, slice_set, None, Some};
+ghost use Rattle.std.specs.Prelude.{◌≡◌, ◌++◌, ◌+◌, ◌<◌, [], drop, length, map, nat_eq, slice_get, slice_index_or, slice_set, take, IfOk, None, Some};
 ghost use Rattle.std.specs.List.{IsDistinct};
-ghost use Rattle.gtfs_stop_times.specs.Headsigns.{rows_with, with_headsign};
+ghost use Rattle.csv.specs.Records.{Rising};
+ghost use Rattle.gtfs_stop_times.specs.Headsigned.{with_headsign, with_headsign_at};
 ghost use Rattle.gtfs_stop_times.specs.KeptLists.{no_row, stop_times_at, AreListed};
 
-use crate::headsigned_rows::HeadsignedRows;
+use crate::by_trip::StopTimesByTrip;
 use crate::optional::OptionalHeadsign;
+use crate::ranges::{in_order, ranges};
 use crate::row_note::RowNote;
 use crate::row_numbers::RowNumbers;
 use crate::stop_row::StopRow;
 use crate::stop_time::StopTime;
+use gtfs_field::{List, OutOfMemory};
 use std::marker::Model;
 
 /// Stop times that are given the numbers of their headsigns, one after the other. The numbers are
-/// written into the rows where they stand, and need no list of their own.
+/// written into the rows where they stand, and need no list of their own. They are seen as the stop
+/// times that are left, and the rows of those that were given theirs.
 #[derive(Drop)]
 pub struct HeadsignedStopTimes {
-    // Rows, notes and order are those of the stop times as they were kept.
+    // Rows and order are those of the stop times as they were kept,
+    // and so are notes until all were given theirs.
     rows: Vec<StopRow>,
     notes: Vec<RowNote>,
     order: RowNumbers,
-    // How many have not been given theirs.
-    left: usize,
+    // How many there are.
+    len: usize,
+    // How many were given theirs.
+    given: usize,
 }
 
 impl Model for HeadsignedStopTimes {
@@ -28,9 +35,9 @@ impl Model for HeadsignedStopTimes {
 
     ghost Value = { Headsigned };
 
-    ghost view = { λ h. headsigned_at h.rows.items h.notes.items h.order h.left };
+    ghost view = { λ h. headsigned_at h.rows.items h.notes.items h.order h.given };
 
-    ghost invariant = { λ h. AreGiven h.rows.items h.notes.items h.order h.left };
+    ghost invariant = { λ h. AreGiven h.rows.items h.notes.items h.order h.len h.given };
 }
 
 impl HeadsignedStopTimes {
@@ -42,70 +49,93 @@ impl HeadsignedStopTimes {
     ) -> HeadsignedStopTimes
         requires listed { AreListed rows.items notes.items order }
         requires once { IsDistinct nat_eq order }
-        ensures stop_times { result.stop_times ≡ stop_times_at rows.items notes.items order }
-        ensures none_given { result.headsigns ≡ [] }
+        ensures left { result.left ≡ stop_times_at rows.items notes.items order }
+        ensures none_given { result.rows ≡ [] }
     {
-        let left = order.len();
+        let len = order.len();
         HeadsignedStopTimes {
             rows,
             notes,
             order,
-            left,
+            len,
+            given: 0,
         }
     }
 
     /// How many stop times there are.
     pub fn len(&self) -> usize
-        ensures { result ≡ length self.now.stop_times }
+        ensures { result ≡ length self.now.rows + length self.now.left }
     {
-        self.order.len()
+        self.len
     }
 
-    /// The stop time at an index, without its headsign.
+    /// The first stop time that is left, without its headsign.
     #[inline(always)]
-    pub fn get(&self, at: usize) -> StopTime
-        requires { at < length self.now.stop_times }
-        ensures { slice_get self.now.stop_times at ≡ Some result }
+    pub fn peek(&self) -> StopTime
+        requires { 0 < length self.now.left }
+        ensures { slice_get self.now.left 0 ≡ Some result }
     {
-        let row = self.order.get(at);
+        let row = self.order.get(self.given);
         let note = self.notes[row as usize];
         StopTime {
             trip: note.trip(),
             row,
             has_headsign: note.has_headsign(),
             times: note.times(),
-            stop_row: StopRow {
-                stop_headsign: OptionalHeadsign::new(None),
-                ..self.rows[row as usize]
-            },
+            stop_row: self.rows[row as usize],
         }
     }
 
-    /// Gives the next stop time the number of its headsign, or none. The first call is for the
-    /// first stop time.
+    /// Gives the first stop time that is left the number of its headsign, or none.
     #[inline(always)]
     pub fn give(&mut self, headsign: OptionalHeadsign)
-        requires { length self.old.headsigns < length self.old.stop_times }
-        ensures stop_times { self.new.stop_times ≡ self.old.stop_times }
-        ensures given { self.new.headsigns ≡ self.old.headsigns ++ headsign ∷ [] }
+        requires { 0 < length self.old.left }
+        ensures left { self.new.left ≡ drop 1 self.old.left }
+        ensures given { self.new.rows ≡ self.old.rows
+            ++ map (λ s. with_headsign_at s headsign) (take 1 self.old.left) }
     {
-        let row = self.order.get(self.order.len() - self.left);
+        let row = self.order.get(self.given);
         name(&mut self.rows, row, headsign);
-        self.left -= 1;
+        self.given += 1;
     }
 
-    /// Their rows with their headsigns, each of which was given. What else is kept of them is let go.
-    pub fn into_rows(self) -> HeadsignedRows
-        requires { length self.headsigns ≡ length self.stop_times }
-        ensures { result ≡ rows_with self.stop_times self.headsigns }
+    /// Lets go what was noted of the rows, where none is left. It takes no memory.
+    pub fn drop_notes(&mut self)
+        requires { self.old.left ≡ [] }
+        ensures { self.new ≡ self.old }
+    {
+        let alloc = *self.notes.allocator();
+        self.notes = Vec::new(alloc);
+    }
+
+    /// The stop times of all trips, where none is left and those of each trip begin at these starts.
+    ///
+    /// Where the rows of each trip follow each other in the file, as in most feeds,
+    /// they stay where they are.
+    ///
+    /// # Errors
+    /// `OutOfMemory` where memory is refused.
+    pub fn into_by_trip(self, starts: List<usize>) -> Result<StopTimesByTrip, OutOfMemory>
+        requires all_given { self.left ≡ [] }
+        requires rising { Rising 0 starts (length self.rows) }
+        requires from_first { slice_index_or starts 0 (length self.rows) ≡ 0 }
+        ensures rows { IfOk result (λ by_trip. by_trip.rows ≡ self.rows) }
+        ensures starts { IfOk result (λ by_trip. by_trip.starts ≡ starts) }
     {
         let HeadsignedStopTimes {
             rows,
-            notes: _,
             order,
-            left: _,
+            len,
+            ..
         } = self;
-        HeadsignedRows::of(rows, order)
+        let alloc = *rows.allocator();
+        match ranges(alloc, &order, starts.as_slice())? {
+            Some(ranges) => Ok(StopTimesByTrip::at_ranges(rows, ranges, len)),
+            None => {
+                let rows = in_order(alloc, &rows, &order)?;
+                Ok(StopTimesByTrip::new(List::new(rows), starts))
+            }
+        }
     }
 }
 

@@ -105,8 +105,8 @@ impl KeptStopTimes {
     /// The same, to be given their headsigns.
     pub fn into_headsigned(self) -> HeadsignedStopTimes
         requires once { IsDistinct nat_eq (map (λ s. s.row) self) }
-        ensures stop_times { result.stop_times ≡ self }
-        ensures none_given { result.headsigns ≡ [] }
+        ensures left { result.left ≡ self }
+        ensures none_given { result.rows ≡ [] }
     {
         let KeptStopTimes { rows, notes, order } = self;
         HeadsignedStopTimes::of(rows, notes, order)
@@ -118,8 +118,8 @@ impl KeptStopTimes {
     /// `OutOfMemory` where memory is refused.
     pub fn to_headsigned(&self, alloc: Global) -> Result<HeadsignedStopTimes, OutOfMemory>
         requires once { IsDistinct nat_eq (map (λ s. s.row) self.now) }
-        ensures stop_times { IfOk result (λ copy. copy.stop_times ≡ self.now) }
-        ensures none_given { IfOk result (λ copy. copy.headsigns ≡ []) }
+        ensures left { IfOk result (λ copy. copy.left ≡ self.now) }
+        ensures none_given { IfOk result (λ copy. copy.rows ≡ []) }
     {
         let rows = copy(alloc, &self.rows)?;
         let notes = copy(alloc, &self.notes)?;

@@ -10,7 +10,7 @@
 //!   [`HeadsignNo`] is the index of a headsign.
 //! - A [`StopTime`] is a row with its trip, its number in the file, and how its times stand.
 //!   [`KeptStopTimes`] are such rows as a check keeps them, until a feed gives them the numbers of
-//!   their headsigns ([`HeadsignedStopTimes`]) and keeps their rows ([`HeadsignedRows`]).
+//!   their headsigns ([`HeadsignedStopTimes`]).
 //! - [`StopTimesByTrip`] are the stop times of all trips, which may stay in the order of the file;
 //!   [`stretch`] finds the items of one trip in a list of those of all trips. A [`TripOf`] is a
 //!   trip of one of two feeds, whose stop times are joined.
@@ -27,7 +27,6 @@
 mod by_trip;
 mod choices;
 mod headsigned;
-mod headsigned_rows;
 mod joined;
 mod kept;
 mod marks;
@@ -48,7 +47,6 @@ mod together;
 pub use by_trip::{RowRange, StopTimesByTrip};
 pub use choices::{DropOffType, PickupType, Timepoint};
 pub use headsigned::HeadsignedStopTimes;
-pub use headsigned_rows::HeadsignedRows;
 pub use joined::TripOf;
 pub use kept::KeptStopTimes;
 pub use numbers::{HeadsignNo, StopNo};

@@ -3,7 +3,7 @@ ghost use Rattle.std.specs.List.{All};
 ghost use Rattle.csv.specs.Records.{Rising};
 ghost use Rattle.gtfs_stop_times.specs.ByTrip.{AreWithin};
 ghost use Rattle.gtfs_table.specs.Parts.{parts};
-ghost use Rattle.gtfs_stop_times.specs.Headsigns.{numbers_in, rows_at};
+ghost use Rattle.gtfs_stop_times.specs.Headsigned.{numbers_in, rows_at};
 
 use crate::by_trip::RowRange;
 use crate::room::room_for;
