@@ -1,13 +1,14 @@
 -- The lists of stop times while they are made: none, one more, and all.
-use Rattle.std.proofs.Common.{◌≡◌, ◌<◌, ◌≤◌, ◌+◌, ◌-◌, ◌++◌, ◌∷◌, ◌∙◌, [], ℕ, suc, List, length, map, take, get_or, true, false, Option, refl, sym, ap, subst, arith, inl, inr}
-use Rattle.std.specs.Prelude.{◌&&◌, ◌||◌, drop, filter_map, flat_map, nat_eq, replicate}
+use Rattle.std.proofs.Common.{◌≡◌, ◌<◌, ◌≤◌, ◌+◌, ◌-◌, ◌++◌, ◌∷◌, ◌∙◌, [], ℕ, suc, List, length, map, take, get_or, true, false, Option, Some, refl, sym, ap, subst, arith, inl, inr}
+use Rattle.std.specs.Prelude.{◌&&◌, ◌||◌, drop, filter_map, flat_map, nat_eq, replicate, slice_get}
 use Rattle.std.specs.List.{All, IsDistinct, list_all, list_any}
 use Rattle.std.proofs.lemmas.Bool.Decides.{nat_tests}
 use Rattle.gtfs_table.specs.Rows.{rows as rows_of}
 use Rattle.std.specs.Ordering.{nat_cmp}
 use Rattle.std.proofs.lemmas.Bool.{and_from as and_both, cases_eq, cases_lt, or_left, or_right}
 use Rattle.std.proofs.lemmas.Map.Keys.{IsDistinct-IsPermutation, IsDistinct-from_apart, Less-from_sorted}
-use Rattle.std.proofs.lemmas.List.{get_or-take, get_or_default, length-append, length-map, length-replicate, length-take-le, length_push, map_push, take_all, take_more}
+use Rattle.std.proofs.lemmas.List.{get_or-drop, get_or-take, get_or_default, length-append, length-map, length-replicate, length-take-le, length_push, map_push, take_all, take_more}
+use Rattle.std.proofs.lemmas.Option.{get_or_from_slice_get}
 use Rattle.std.proofs.lemmas.List.Elements.{All-append, All-cons, All-head, All-nil}
 use Rattle.std.proofs.lemmas.List.Folds.{list_all-append}
 use Rattle.std.proofs.lemmas.List.Folds.{flat_map-map, list_any-append}
@@ -20,16 +21,15 @@ use Rattle.gtfs_table.specs.Tables.{Dataset}
 use Rattle.gtfs_table.specs.declared.file.File.TheVariants as file
 use Rattle.gtfs_columns.specs.Problems.{Passes}
 use Rattle.gtfs_columns.specs.Rows.{word_in}
-use Rattle.gtfs_trip_rules.specs.declared.trips.row.StopTime.{StopTime}
+use Rattle.gtfs_stop_times.specs.declared.stop_time.StopTime.{StopTime}
 use Rattle.gtfs_rules.specs.StopTimes.{AreStopTimes, SaysStopTime, stop_time_cmp}
 use Rattle.gtfs_rows.specs.Reading.{content_of, stop_row_in}
 use Rattle.gtfs_rows.specs.Rows.{StopRow as StopRowOf}
 use Rattle.gtfs_stop_times.specs.declared.stop_row.StopRow.{StopRow}
 use Rattle.gtfs_reading.specs.FirstNamed.{each_once}
-use Rattle.gtfs_reading.specs.Gathering.{AreGathered, AreListsOf, IsEmptyFor, by_trip}
-use Rattle.gtfs_reading.specs.StopTimeDraft.{AreCut, lists_with}
-use Rattle.gtfs_reading.specs.declared.gathered.GatheredLists.{GatheredLists}
-use Rattle.gtfs_trip_rules.specs.Headsigns.{rows_with, with_headsign_at}
+use Rattle.gtfs_reading.specs.Gathering.{AreGathered, IsEmptyFor, by_trip, starts_of_all}
+use Rattle.gtfs_reading.specs.StopTimeDraft.{lists_with}
+use Rattle.gtfs_stop_times.specs.Headsigned.{with_headsign_at}
 use Rattle.gtfs_rows.specs.Headsigns.{AddsOnly, AreDistinct, KeepsHeadsigns, NamesHeadsign}
 use Rattle.gtfs_reading.specs.HeadsignIndex.{with_headsign}
 use Rattle.gtfs_reading.specs.StopTimeLists.{AreStopTimesOf, content_stop_ids, has_headsign, is_number}
@@ -42,20 +42,6 @@ use Rattle.gtfs_reading.proofs.RowKeys.{rows_up}
 use Rattle.gtfs_reading.proofs.RowSays.{numbers_kept, row_below, row_says, rows_kept}
 use Rattle.gtfs_reading.proofs.Starts.{first-filled, rising-filled, stretches-filled, stretches-more}
 use Rattle.gtfs_reading.proofs.TripRows.{rows_by_trip, trip_below}
-
--- ---- rows with headsigns
-
-pub rows_with-none : (hs : List (Option ℕ)) → rows_with [] hs ≡ []
-unfolding rows_with
-rows_with-none hs = refl
-
-rows_with-push : (ss : List StopTime) (hs : List (Option ℕ)) (s : StopTime) (h : Option ℕ) → length hs ≡ length ss
-    → rows_with (ss ++ s ∷ []) (hs ++ h ∷ []) ≡ rows_with ss hs ++ with_headsign_at s h ∷ []
-unfolding rows_with
-rows_with-push [] [] s h same = refl
-rows_with-push [] (k ∷ hs) s h same = cc same
-rows_with-push (r ∷ ss) [] s h same = cc same
-rows_with-push (r ∷ ss) (k ∷ hs) s h same = ap (λ rs. with_headsign_at r k ∷ rs) (rows_with-push ss hs s h (omega (arith, same)))
 
 -- ---- none
 
@@ -76,12 +62,11 @@ gathered-none d g empty = record {
   trips = empty.trips;
   below = All-nil (λ s. s.trip < length g.starts.items);
   least = λ n all. let many = ap length empty.starts in omega (arith, many);
-  size = ap length empty.numbers;
   rising = none-rise g.starts.items 0 empty.starts;
   from_first = ap (λ ks. get_or ks 0 0) empty.starts;
   stretches = none-by_trip g.starts.items [] empty.starts;
-  named = ap (map (stop_row_named (content_stop_ids d) g.headsigns.texts)) (rows_with-none g.stop_times.headsigns);
-  numbers = ap (list_all (has_numbers_below (length (content_of d).stops) (length g.headsigns.texts))) (rows_with-none g.stop_times.headsigns);
+  named = ap (map (stop_row_named (content_stop_ids d) g.headsigns.texts)) empty.rows;
+  numbers = ap (list_all (has_numbers_below (length (content_of d).stops) (length g.headsigns.texts))) empty.rows;
   used = λ k h. let many = ap length empty.headsigns in absurd (omega (arith, h, many));
   first_named = empty.headsigns ∙ none-once;
 }
@@ -103,7 +88,7 @@ module _ (starts filled : List ℕ) (n size : ℕ) (low : length starts ≤ n) (
   pub filled-first : get_or starts 0 size ≡ 0 → get_or filled 0 size ≡ 0
   filled-first first = ap (λ ks. get_or ks 0 size) filled-is ∙ first-filled (n - length starts) starts size first
 
-count-rows : (d : Dataset) (ss : List StopTime) (ts : List (List ℕ)) (rs : List StopRow)
+pub count-rows : (d : Dataset) (ss : List StopTime) (ts : List (List ℕ)) (rs : List StopRow)
     → map (stop_row_named (content_stop_ids d) ts) rs ≡ map (λ s. stop_row_in d s.row) ss → length rs ≡ length ss
 count-rows d ss ts rs named = sym (length-map rs (stop_row_named (content_stop_ids d) ts)) ∙ ap length named ∙ length-map ss (λ s. stop_row_in d s.row)
 
@@ -117,19 +102,19 @@ pub record IsOneMore (d : Dataset) (s : StopTime) (g new : Gathered) : Type 0 wh
   pub added : AddsOnly g.headsigns.texts new.headsigns.texts headsign
   pub texts : new.headsigns.texts ≡ with_headsign g.headsigns.texts (word_in d file.StopTimes s.row "stop_headsign")
   pub names : NamesHeadsign new.headsigns.texts headsign (word_in d file.StopTimes s.row "stop_headsign")
-  pub starts : new.starts.items ≡ take (s.trip + 1) g.starts.items ++ replicate (s.trip + 1 - length g.starts.items) (length g.stop_times.headsigns)
-  pub numbers : new.stop_times.headsigns ≡ g.stop_times.headsigns ++ headsign ∷ []
+  pub starts : new.starts.items ≡ take (s.trip + 1) g.starts.items ++ replicate (s.trip + 1 - length g.starts.items) (length g.stop_times.rows)
+  pub rows : new.stop_times.rows ≡ g.stop_times.rows ++ with_headsign_at s headsign ∷ []
 
 module _ (d : Dataset) (passes : Passes d) (ss : List StopTime) (s : StopTime) (g new : Gathered)
     (so_far : AreGathered d ss g) (said : SaysStopTime d s) (after : All (λ r. r.trip ≤ s.trip) ss) (more : IsOneMore d s g new) where
   abbrev earlier : List StopRow
-  earlier = rows_with ss g.stop_times.headsigns
+  earlier = g.stop_times.rows
 
-  rows : rows_with (ss ++ s ∷ []) new.stop_times.headsigns ≡ earlier ++ with_headsign_at s more.headsign ∷ []
-  rows = ap (rows_with (ss ++ s ∷ [])) more.numbers ∙ rows_with-push ss g.stop_times.headsigns s more.headsign so_far.size
+  size : length earlier ≡ length ss
+  size = count-rows d ss g.headsigns.texts earlier so_far.named
 
   starts : new.starts.items ≡ take (s.trip + 1) g.starts.items ++ replicate (s.trip + 1 - length g.starts.items) (length ss)
-  starts = more.starts ∙ ap (λ n. take (s.trip + 1) g.starts.items ++ replicate (s.trip + 1 - length g.starts.items) n) so_far.size
+  starts = more.starts ∙ ap (λ n. take (s.trip + 1) g.starts.items ++ replicate (s.trip + 1 - length g.starts.items) n) size
 
   low : length g.starts.items ≤ s.trip + 1
   low = so_far.least (s.trip + 1) (λ k e h. let lower = after k e h in omega (arith, lower))
@@ -161,7 +146,6 @@ module _ (d : Dataset) (passes : Passes d) (ss : List StopTime) (s : StopTime) (
   pub gathered-more : AreGathered d (ss ++ s ∷ []) new
   gathered-more = record {
     trips = more.trips ∙ so_far.trips;
-    size = ap length more.numbers ∙ length_push g.stop_times.headsigns more.headsign ∙ ap (λ n. n + 1) so_far.size ∙ sym grown;
     below = All-append (λ r. r.trip < length new.starts.items) ss (s ∷ [])
         (λ k e h. let lower = after k e h in omega (arith, lower, count))
         (All-cons (λ r. r.trip < length new.starts.items) s [] (omega (arith, count)) (All-nil (λ r. r.trip < length new.starts.items)));
@@ -171,20 +155,20 @@ module _ (d : Dataset) (passes : Passes d) (ss : List StopTime) (s : StopTime) (
     from_first = get_or_default new.starts.items 0 (length (ss ++ s ∷ [])) (length ss) (omega (arith, count))
         ∙ filled-first g.starts.items new.starts.items (s.trip + 1) (length ss) low starts so_far.from_first;
     stretches = stretches;
-    named = ap (map (stop_row_named (content_stop_ids d) new.headsigns.texts)) rows
+    named = ap (map (stop_row_named (content_stop_ids d) new.headsigns.texts)) more.rows
         ∙ map_push (stop_row_named (content_stop_ids d) new.headsigns.texts) earlier (with_headsign_at s more.headsign)
         ∙ ap (λ rs. rs ++ stop_row_named (content_stop_ids d) new.headsigns.texts (with_headsign_at s more.headsign) ∷ [])
         (sym (rows_kept (content_stop_ids d) (length (content_of d).stops) g.headsigns.texts new.headsigns.texts more.kept earlier so_far.numbers) ∙ so_far.named)
         ∙ ap (λ r. map (λ s. stop_row_in d s.row) ss ++ r ∷ []) (row_says d passes s said new.headsigns.texts more.headsign more.names)
         ∙ sym (map_push (λ s. stop_row_in d s.row) ss s);
-    numbers = ap (list_all (has_numbers_below (length (content_of d).stops) (length new.headsigns.texts))) rows
+    numbers = ap (list_all (has_numbers_below (length (content_of d).stops) (length new.headsigns.texts))) more.rows
         ∙ list_all-append (has_numbers_below (length (content_of d).stops) (length new.headsigns.texts)) earlier ((with_headsign_at s more.headsign) ∷ [])
         ∙ and_both (list_all (has_numbers_below (length (content_of d).stops) (length new.headsigns.texts)) earlier)
         (has_numbers_below (length (content_of d).stops) (length new.headsigns.texts) (with_headsign_at s more.headsign) && true)
         (numbers_kept (content_stop_ids d) (length (content_of d).stops) g.headsigns.texts new.headsigns.texts more.kept earlier so_far.numbers)
         (and_both (has_numbers_below (length (content_of d).stops) (length new.headsigns.texts) (with_headsign_at s more.headsign)) true
         (row_below d passes s said new.headsigns.texts more.headsign more.names) refl);
-    used = λ k h. ap (list_any (has_headsign k)) rows ∙ list_any-append (has_headsign k) earlier ((with_headsign_at s more.headsign) ∷ []) ∙ used-either k h;
+    used = λ k h. ap (list_any (has_headsign k)) more.rows ∙ list_any-append (has_headsign k) earlier ((with_headsign_at s more.headsign) ∷ []) ∙ used-either k h;
     first_named = more.texts ∙ ap (λ ts. with_headsign ts (word_in d file.StopTimes s.row "stop_headsign")) so_far.first_named
         ∙ sym (headsigns-more (λ r. r.stop_headsign) (map (λ s. stop_row_in d s.row) ss) (stop_row_in d s.row))
         ∙ ap (λ rs. each_once (filter_map (λ r. r.stop_headsign) rs)) (sym (map_push (λ s. stop_row_in d s.row) ss s));
@@ -195,6 +179,11 @@ module _ (d : Dataset) (passes : Passes d) (ss : List StopTime) (s : StopTime) (
       at-end (r ∷ ss) s n all = at-end ss s n (λ k e h. all (suc k) e (omega (arith, h)))
 
 -- ---- the next one
+
+-- the first one that is left
+pub stop-time-left : (ss : List StopTime) (at : ℕ) (s : StopTime) → at < length ss → (left : List StopTime) → left ≡ drop at ss → slice_get left 0 ≡ Some s → get_or ss at s ≡ s
+stop-time-left ss at s within left is here =
+    sym (get_or-drop at ss 0 s ∙ ap (λ n. get_or ss n s) (omega arith)) ∙ ap (λ rs. get_or rs 0 s) (sym is) ∙ get_or_from_slice_get left 0 s s here
 
 module _ (d : Dataset) (passes : Passes d) (all : List StopTime) (are : AreStopTimes d all) (i : ℕ) (e : StopTime) (within : i < length all) where
   before : All (λ r. r.trip ≤ (get_or all i e).trip) (take i all)
@@ -212,78 +201,69 @@ module _ (d : Dataset) (passes : Passes d) (all : List StopTime) (are : AreStopT
 
 -- ---- all
 
-module _ (d : Dataset) (passes : Passes d) (ss : List StopTime) (are : AreStopTimes d ss) (g : Gathered) (so_far : AreGathered d ss g) (whole : g.stop_times.stop_times ≡ ss)
-    (made : GatheredLists) (of : AreListsOf g made) where
-  abbrev lists : StopTimes
-  lists = lists_with made.rows made.starts made.headsigns
-
-  made-rows : lists.stop_times.rows ≡ rows_with ss g.stop_times.headsigns
-  made-rows = of.rows ∙ ap (λ rs. rows_with rs g.stop_times.headsigns) whole
-
-  made-starts : lists.stop_times.starts ≡ take g.trips g.starts.items ++ replicate (g.trips - length g.starts.items) (length ss)
-  made-starts = of.starts ∙ ap (λ n. take g.trips g.starts.items ++ replicate (g.trips - length g.starts.items) n) so_far.size
-
-  made-headsigns : lists.headsigns ≡ g.headsigns.texts
-  made-headsigns = of.headsigns
-
-  within : length g.starts.items ≤ g.trips
-  within = so_far.least g.trips (λ k e h. let below = trip_below d ss are passes (get_or ss k e) (are.say k e h) in omega (arith, below, so_far.trips))
-
-  all-count : length lists.stop_times.starts ≡ g.trips
-  all-count = count-filled g.starts.items lists.stop_times.starts g.trips (length ss) within made-starts
-
+module _ (d : Dataset) (passes : Passes d) (ss : List StopTime) (are : AreStopTimes d ss) (g : Gathered) (so_far : AreGathered d ss g) (distinct : AreDistinct g.headsigns.texts) where
   abbrev found : List StopRow
-  found = rows_with ss g.stop_times.headsigns
+  found = g.stop_times.rows
+
+  abbrev all-starts : List ℕ
+  all-starts = starts_of_all g
+
+  abbrev all-lists : StopTimes
+  all-lists = lists_with found all-starts g.headsigns.texts
 
   all-size : length found ≡ length ss
   all-size = count-rows d ss g.headsigns.texts found so_far.named
 
-  all-stretches : parts lists.stop_times.starts ss ≡ by_trip (length (content_of d).trips) ss
+  all-filled : all-starts ≡ take g.trips g.starts.items ++ replicate (g.trips - length g.starts.items) (length ss)
+  all-filled = ap (λ n. take g.trips g.starts.items ++ replicate (g.trips - length g.starts.items) n) all-size
+
+  within : length g.starts.items ≤ g.trips
+  within = so_far.least g.trips (λ k e h. let below = trip_below d ss are passes (get_or ss k e) (are.say k e h) in omega (arith, below, so_far.trips))
+
+  all-count : length all-starts ≡ g.trips
+  all-count = count-filled g.starts.items all-starts g.trips (length ss) within all-filled
+
+  all-stretches : parts all-starts ss ≡ by_trip (length (content_of d).trips) ss
   all-stretches =
       let m = g.trips - length g.starts.items in
       let last : length g.starts.items + m ≡ length (content_of d).trips = omega (arith, within, so_far.trips) in
-      ap (λ ks. parts ks ss) (filled-is g.starts.items lists.stop_times.starts g.trips (length ss) within made-starts)
+      ap (λ ks. parts ks ss) (filled-is g.starts.items all-starts g.trips (length ss) within all-filled)
       ∙ stretches-filled ss g.starts.items m so_far.rising so_far.below so_far.stretches
       ∙ ap (λ n. by_trip n ss) last
 
   abbrev row : StopTime → StopRowOf
   row s = stop_row_in d s.row
 
-  all-rising : Rising 0 lists.stop_times.starts (length ss)
-  all-rising = filled-rising g.starts.items lists.stop_times.starts g.trips (length ss) within made-starts so_far.rising
+  all-rising : Rising 0 all-starts (length ss)
+  all-rising = filled-rising g.starts.items all-starts g.trips (length ss) within all-filled so_far.rising
 
-  all-first : get_or lists.stop_times.starts 0 (length ss) ≡ 0
-  all-first = filled-first g.starts.items lists.stop_times.starts g.trips (length ss) within made-starts so_far.from_first
+  all-first : get_or all-starts 0 (length ss) ≡ 0
+  all-first = filled-first g.starts.items all-starts g.trips (length ss) within all-filled so_far.from_first
 
   -- the rows of the content's trips, one trip after the other
   all-rows : flat_map (λ t. t.stop_rows) (content_of d).trips ≡ map row ss
   all-rows =
       let size : length ss ≡ length (map row ss) = sym (length-map ss row) in
       sym (flat_map-map (λ rs. rs) (λ t. t.stop_rows) (content_of d).trips)
-      ∙ ap (flat_map (λ rs. rs)) (sym (rows_by_trip d ss are passes) ∙ ap (map (map row)) (sym all-stretches) ∙ sym (parts-map row lists.stop_times.starts ss))
-      ∙ parts-joined 0 lists.stop_times.starts (map row ss) (subst (Rising 0 lists.stop_times.starts) size all-rising)
-      ∙ ap (λ n. drop n (map row ss)) (ap (get_or lists.stop_times.starts 0) (sym size) ∙ all-first)
+      ∙ ap (flat_map (λ rs. rs)) (sym (rows_by_trip d ss are passes) ∙ ap (map (map row)) (sym all-stretches) ∙ sym (parts-map row all-starts ss))
+      ∙ parts-joined 0 all-starts (map row ss) (subst (Rising 0 all-starts) size all-rising)
+      ∙ ap (λ n. drop n (map row ss)) (ap (get_or all-starts 0) (sym size) ∙ all-first)
 
-  pub gathered-all : AreStopTimesOf d lists
+  pub gathered-all : AreStopTimesOf d all-lists
   gathered-all = record {
     trips = all-count ∙ so_far.trips;
-    rising = subst (λ n. Rising 0 lists.stop_times.starts n) (sym (ap length made-rows ∙ all-size)) all-rising;
-    from_first = ap (get_or lists.stop_times.starts 0) (ap length made-rows ∙ all-size) ∙ all-first;
-    by_trip = sym (parts-map (stop_row_named (content_stop_ids d) lists.headsigns) lists.stop_times.starts lists.stop_times.rows)
-        ∙ ap (parts lists.stop_times.starts) (ap (map (stop_row_named (content_stop_ids d) lists.headsigns)) made-rows
-        ∙ ap (λ ts. map (stop_row_named (content_stop_ids d) ts) found) made-headsigns ∙ so_far.named)
-        ∙ parts-map row lists.stop_times.starts ss
+    rising = subst (Rising 0 all-starts) (sym all-size) all-rising;
+    from_first = ap (get_or all-starts 0) all-size ∙ all-first;
+    by_trip = sym (parts-map (stop_row_named (content_stop_ids d) g.headsigns.texts) all-starts found)
+        ∙ ap (parts all-starts) so_far.named
+        ∙ parts-map row all-starts ss
         ∙ ap (map (map row)) all-stretches
         ∙ rows_by_trip d ss are passes;
-    numbers = ap (list_all (has_numbers_below (length (content_of d).stops) (length lists.headsigns))) made-rows
-        ∙ ap (λ ts. list_all (has_numbers_below (length (content_of d).stops) (length ts)) found) made-headsigns ∙ so_far.numbers;
-    first_named = made-headsigns ∙ so_far.first_named ∙ ap (λ rs. each_once (filter_map (λ r. r.stop_headsign) rs)) (sym all-rows);
-    distinct = subst AreDistinct (sym made-headsigns) of.distinct;
-    used = λ k h. ap (list_any (has_headsign k)) made-rows ∙ so_far.used k (subst (λ ts. k < length ts) made-headsigns h);
+    numbers = so_far.numbers;
+    first_named = so_far.first_named ∙ ap (λ rs. each_once (filter_map (λ r. r.stop_headsign) rs)) (sym all-rows);
+    distinct = distinct;
+    used = so_far.used;
   }
-
-  pub cut-all : AreCut made.rows made.starts
-  cut-all = record { rising = gathered-all.rising; from_first = gathered-all.from_first }
 
 -- each stop time is that of another row
 pub each-row-once : (d : Dataset) (ss : List StopTime) → AreStopTimes d ss → IsDistinct nat_eq (map (λ s. s.row) ss)

@@ -10,7 +10,7 @@ use Rattle.csv.specs.Records.{Rising}
 use Rattle.csv.proofs.RecordFacts.{rising-end}
 use Rattle.gtfs_table.specs.Parts.{add_to_last, parts}
 use Rattle.gtfs_table.proofs.PartFacts.{parts-more, parts-push}
-use Rattle.gtfs_trip_rules.specs.declared.trips.row.StopTime.{StopTime}
+use Rattle.gtfs_stop_times.specs.declared.stop_time.StopTime.{StopTime}
 use Rattle.gtfs_rows.proofs.Held.{filter_none}
 use Rattle.gtfs_reading.specs.Gathering.{by_trip, of_trip}
 

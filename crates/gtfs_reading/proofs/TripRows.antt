@@ -26,7 +26,7 @@ use Rattle.gtfs_columns.specs.Rows.{text_in, word_in}
 use Rattle.gtfs_columns.specs.Values.{is_word}
 use Rattle.gtfs_columns.proofs.SiteFacts.{text_itself}
 use Rattle.gtfs_columns.proofs.ValueFacts.{is_word_some as word-is}
-use Rattle.gtfs_trip_rules.specs.declared.trips.row.StopTime.{StopTime}
+use Rattle.gtfs_stop_times.specs.declared.stop_time.StopTime.{StopTime}
 use Rattle.gtfs_rules.specs.StopTimes.{AreStopTimes, SaysStopTime, stop_time_cmp}
 use Rattle.gtfs_rules.proofs.PassedRows.{trip_is}
 use Rattle.gtfs_rows.specs.Order.{by_key}

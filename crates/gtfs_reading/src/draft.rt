@@ -1,16 +1,16 @@
-ghost use Rattle.std.specs.Prelude.{◌≡◌, IfOk};
+ghost use Rattle.std.specs.Prelude.{◌≡◌, [], IfOk};
 ghost use Rattle.gtfs_columns.specs.Problems.{Passes};
 ghost use Rattle.gtfs_columns.specs.steps.FeedIds.{AreNetworkIdsOf};
 ghost use Rattle.gtfs_rules.specs.StopTimes.{AreStopTimes};
 ghost use Rattle.gtfs_reading.specs.StopTimeDraft.{lists_with};
 ghost use Rattle.gtfs_reading.specs.StopTimeLists.{AreStopTimesOf};
 
-use crate::gathered::{Gathered, GatheredLists};
+use crate::gathered::{Gathered, begin};
 use crate::stop_times::StopTimes;
 use gtfs_columns::NetworkIds;
 use gtfs_field::{List, OutOfMemory, Text};
+use gtfs_stop_times::{HeadsignedStopTimes, KeptStopTimes};
 use gtfs_table::Tables;
-use gtfs_trip_rules::{HeadsignedRows, KeptStopTimes};
 use std::alloc::Global;
 use std::hash::RandomState;
 use std::marker::Model;
@@ -20,7 +20,8 @@ use std::marker::Model;
 /// seen as the lists that it becomes.
 #[derive(Drop)]
 pub struct StopTimesDraft {
-    rows: HeadsignedRows,
+    stop_times: HeadsignedStopTimes,
+    // Where those of each trip begin.
     starts: List<usize>,
     headsigns: List<Text>,
 }
@@ -31,9 +32,9 @@ impl Model for StopTimesDraft {
 
     ghost Value = { StopTimesValue };
 
-    ghost view = { λ d. lists_with d.rows d.starts d.headsigns };
+    ghost view = { λ d. lists_with d.stop_times.rows d.starts d.headsigns };
 
-    ghost invariant = { λ d. AreCut d.rows d.starts };
+    ghost invariant = { λ d. AreCut d.stop_times d.starts };
 }
 
 impl StopTimesDraft {
@@ -57,18 +58,37 @@ impl StopTimesDraft {
         requires stop_times { AreStopTimes tables.now stop_times }
         ensures { IfOk result (AreStopTimesOf tables.now) }
     {
-        let stop_times = stop_times.into_headsigned();
+        StopTimesDraft::of(alloc, random, tables, ids, stop_times.into_headsigned())
+    }
+
+    // The same of stop times of which none has been given a headsign. The trips after that of the
+    // last stop time begin at the end.
+    pub(crate) fn of(
+        alloc: Global,
+        random: RandomState,
+        tables: &Tables,
+        ids: &NetworkIds<'_>,
+        stop_times: HeadsignedStopTimes,
+    ) -> Result<StopTimesDraft, OutOfMemory>
+        requires passes { Passes tables.now }
+        requires ids { AreNetworkIdsOf tables.now ids.now }
+        requires stop_times { AreStopTimes tables.now stop_times.left }
+        requires none_given { stop_times.rows ≡ [] }
+        ensures { IfOk result (AreStopTimesOf tables.now) }
+    {
         let mut gathered = Gathered::new(alloc, random, stop_times, ids.trips.len())?;
         gathered.push_all(tables)?;
-        let GatheredLists {
-            rows,
-            starts,
+        let Gathered {
+            trips,
+            stop_times,
+            mut starts,
             headsigns,
-        } = gathered.into_lists()?;
+        } = gathered;
+        begin(&mut starts, trips, stop_times.len())?;
         Ok(StopTimesDraft {
-            rows,
-            starts,
-            headsigns,
+            stop_times,
+            starts: List::new(starts),
+            headsigns: headsigns.into_list()?,
         })
     }
 
@@ -81,12 +101,12 @@ impl StopTimesDraft {
         ensures { IfOk result (λ lists. lists ≡ self) }
     {
         let StopTimesDraft {
-            rows,
+            stop_times,
             starts,
             headsigns,
         } = self;
         Ok(StopTimes {
-            stop_times: rows.into_by_trip(starts)?,
+            stop_times: stop_times.into_by_trip(starts)?,
             headsigns,
         })
     }

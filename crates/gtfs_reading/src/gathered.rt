@@ -4,16 +4,15 @@ ghost use Rattle.std.specs.Prelude.{◌≡◌, ◌++◌, ◌-◌, [], length, no
 ghost use Rattle.gtfs_columns.specs.Problems.{Passes};
 ghost use Rattle.gtfs_rows.specs.Reading.{content_of};
 ghost use Rattle.gtfs_rules.specs.StopTimes.{AreStopTimes};
-ghost use Rattle.gtfs_reading.specs.Gathering.{AreGathered, AreListsOf, IsEmptyFor};
+ghost use Rattle.gtfs_reading.specs.Gathering.{AreGathered, IsEmptyFor};
 ghost use Rattle.gtfs_table.specs.Rows.{is_empty, records_in};
 ghost use Rattle.gtfs_table.specs.Tables.{field_under, record_at};
 ghost use Rattle.gtfs_table.specs.declared.file.File.TheVariants as file;
 
 use crate::headsigns::Headsigns;
-use gtfs_field::{List, OutOfMemory, Text};
-use gtfs_rules::StopTime;
+use gtfs_field::OutOfMemory;
+use gtfs_stop_times::{HeadsignedStopTimes, StopTime};
 use gtfs_table::{File, Tables};
-use gtfs_trip_rules::{HeadsignedRows, HeadsignedStopTimes};
 use std::alloc::Global;
 use std::hash::RandomState;
 
@@ -21,21 +20,11 @@ use std::hash::RandomState;
 #[derive(Drop)]
 pub(crate) struct Gathered {
     // How many trips there are in all.
-    trips: usize,
-    stop_times: HeadsignedStopTimes,
+    pub(crate) trips: usize,
+    pub(crate) stop_times: HeadsignedStopTimes,
     // Where those of each trip begin, up to the trip of the last one that was given its headsign.
-    starts: Vec<usize>,
-    headsigns: Headsigns,
-}
-
-// What a feed keeps of its stop times.
-#[derive(Drop)]
-pub(crate) struct GatheredLists {
-    // The stop times of all trips.
-    pub(crate) rows: HeadsignedRows,
-    // Where the stop times of each trip begin.
-    pub(crate) starts: List<usize>,
-    pub(crate) headsigns: List<Text>,
+    pub(crate) starts: Vec<usize>,
+    pub(crate) headsigns: Headsigns,
 }
 
 impl Gathered {
@@ -46,10 +35,9 @@ impl Gathered {
         stop_times: HeadsignedStopTimes,
         trips: usize,
     ) -> Result<Gathered, OutOfMemory>
-        requires { stop_times.headsigns ≡ [] }
+        requires { stop_times.rows ≡ [] }
         ensures empty { IfOk result (IsEmptyFor trips) }
-        ensures stop_times { IfOk result
-            (λ g. g.stop_times.stop_times ≡ stop_times.stop_times) }
+        ensures left { IfOk result (λ g. g.stop_times.left ≡ stop_times.left) }
         ensures random { IfOk result (λ g. g.headsigns.random ≡ random) }
     {
         Ok(Gathered {
@@ -63,47 +51,28 @@ impl Gathered {
     // Gives all stop times, those of a dataset, their headsigns, trip after trip.
     pub(crate) fn push_all(&mut self, tables: &Tables) -> Result<(), OutOfMemory>
         requires passes { Passes tables.now }
-        requires stop_times { AreStopTimes tables.now self.old.stop_times.stop_times }
+        requires stop_times { AreStopTimes tables.now self.old.stop_times.left }
         requires empty { IsEmptyFor (length (content_of tables.now).trips) self.old }
         ensures gathered { OnOk result
-            (AreGathered tables.now self.old.stop_times.stop_times self.new) }
-        ensures stop_times { OnOk result
-            (self.new.stop_times.stop_times ≡ self.old.stop_times.stop_times) }
+            (AreGathered tables.now self.old.stop_times.left self.new) }
+        ensures all_given { OnOk result (self.new.stop_times.left ≡ []) }
     {
         let column = tables.column(File::StopTimes, "stop_headsign");
         for at in 0..self.stop_times.len() {
-            let stop_time = self.stop_times.get(at);
+            let stop_time = self.stop_times.peek();
             let number = self.headsigns.number(text(tables, &stop_time, column))?;
             begin(&mut self.starts, stop_time.trip as usize + 1, at)?;
             self.stop_times.give(number);
         }
+        self.stop_times.drop_notes();
         Ok(())
-    }
-
-    // The lists. The trips after that of the last stop time begin at the end.
-    pub(crate) fn into_lists(self) -> Result<GatheredLists, OutOfMemory>
-        requires { length self.stop_times.headsigns ≡ length self.stop_times.stop_times }
-        ensures { IfOk result (AreListsOf self) }
-    {
-        let Gathered {
-            trips,
-            stop_times,
-            mut starts,
-            headsigns,
-        } = self;
-        starts.resize(trips, stop_times.len())?;
-        Ok(GatheredLists {
-            rows: stop_times.into_rows(),
-            starts: List::new(starts),
-            headsigns: headsigns.into_list()?,
-        })
     }
 }
 
 // Has so many starts, of which those that come to it are this one.
 // Mostly there are as many, and no call is needed.
 #[inline(always)]
-fn begin(starts: &mut Vec<usize>, count: usize, start: usize) -> Result<(), OutOfMemory>
+pub(crate) fn begin(starts: &mut Vec<usize>, count: usize, start: usize) -> Result<(), OutOfMemory>
     ensures { OnOk result (starts.new.items
         ≡ take count starts.old.items ++ replicate (count - length starts.old.items) start) }
 {

@@ -1,7 +1,7 @@
 ghost use Rattle.std.specs.Prelude.{IfOk};
 ghost use Rattle.gtfs_reading.specs.StopTimeLists.{AreStopTimesOf};
 
-use crate::gathered::{Gathered, GatheredLists};
+use crate::draft::StopTimesDraft;
 use gtfs_field::{List, OutOfMemory, Text};
 use gtfs_rows::StopTimesByTrip;
 use gtfs_rules::Passed;
@@ -36,18 +36,8 @@ impl StopTimes {
     ) -> Result<StopTimes, OutOfMemory>
         ensures { IfOk result (AreStopTimesOf passed.now) }
     {
-        let trips = passed.ids().network.trips.len();
+        let ids = &passed.ids().network;
         let stop_times = passed.stop_times().to_headsigned(alloc)?;
-        let mut gathered = Gathered::new(alloc, random, stop_times, trips)?;
-        gathered.push_all(passed.tables())?;
-        let GatheredLists {
-            rows,
-            starts,
-            headsigns,
-        } = gathered.into_lists()?;
-        Ok(StopTimes {
-            stop_times: rows.into_by_trip(starts)?,
-            headsigns,
-        })
+        StopTimesDraft::of(alloc, random, passed.tables(), ids, stop_times)?.into_stop_times()
     }
 }

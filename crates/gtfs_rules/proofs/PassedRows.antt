@@ -13,7 +13,7 @@ use Rattle.gtfs_columns.specs.Reads.{amount_of, choice_of, word_of}
 use Rattle.gtfs_columns.specs.Rows.{row_with}
 use Rattle.gtfs_columns.specs.Values.{meaning, readable}
 use Rattle.gtfs_columns.specs.steps.Ids.{FirstRows, first_row_with, first_rows, ids_of, number_with}
-use Rattle.gtfs_trip_rules.specs.declared.trips.row.StopTime.{StopTime}
+use Rattle.gtfs_stop_times.specs.declared.stop_time.StopTime.{StopTime}
 use Rattle.gtfs_trip_rules.specs.Kept.{Keeps}
 use Rattle.gtfs_trip_rules.specs.StopTimes.{stop_time_text}
 use Rattle.gtfs_rules.specs.StopTimes.{SaysStopTime}

@@ -24,9 +24,9 @@ use Rattle.gtfs_columns.specs.KeyRules.{all_there, same_key}
 use Rattle.gtfs_columns.specs.Problems.{Passes, kept}
 use Rattle.gtfs_columns.specs.Rows.{amount_in, text_in, value_in, word_in}
 use Rattle.gtfs_columns.specs.Values.{Value, amount, if_both, value_eq, word}
-use Rattle.gtfs_trip_rules.specs.declared.trips.row.StopTime.{StopTime}
+use Rattle.gtfs_stop_times.specs.declared.stop_time.StopTime.{StopTime}
 use Rattle.gtfs_trip_rules.specs.KeptOrder.{AreKeptOf}
-use Rattle.gtfs_trip_rules.specs.TripOrder.{kept_cmp}
+use Rattle.gtfs_stop_times.specs.StopTimeOrder.{kept_cmp}
 use Rattle.gtfs_trip_rules.specs.TripStopTimes.{TripStopTime, has_trip_stop_time, trip_stop_time, trip_stop_time_in, trip_stop_times_in}
 use Rattle.gtfs_rules.specs.StopTimes.{AreStopTimes, SaysStopTime, stop_time_cmp}
 use Rattle.gtfs_columns.proofs.EachFacts.{any_follows}

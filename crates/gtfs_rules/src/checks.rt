@@ -10,9 +10,10 @@ use crate::report::Report;
 use gtfs_columns::{FeedIds, Found, stop_types};
 use gtfs_field::OutOfMemory;
 use gtfs_row_rules::{report_files, report_headers, report_rows};
+use gtfs_stop_times::KeptStopTimes;
 use gtfs_table::Tables;
 use gtfs_trip_rules::{
-    KeptStopTimes, report_counts, report_order, report_overlaps, report_services, report_stop_times,
+    report_counts, report_order, report_overlaps, report_services, report_stop_times,
 };
 use std::alloc::Global;
 

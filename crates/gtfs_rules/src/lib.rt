@@ -31,6 +31,6 @@ mod report;
 
 pub use checks::check;
 pub use gtfs_columns::{Code, FileName, Problem};
-pub use gtfs_trip_rules::{KeptStopTimes, StopTime};
+pub use gtfs_stop_times::{KeptStopTimes, StopTime};
 pub use passed::Passed;
 pub use report::Report;

@@ -4,8 +4,8 @@ ghost use Rattle.gtfs_columns.specs.steps.FeedIds.{AreIdsOf};
 ghost use Rattle.gtfs_rules.specs.StopTimes.{AreStopTimes};
 
 use gtfs_columns::FeedIds;
+use gtfs_stop_times::KeptStopTimes;
 use gtfs_table::Tables;
-use gtfs_trip_rules::KeptStopTimes;
 use std::marker::Model;
 
 /// Tables that were checked and have no error. Nothing but

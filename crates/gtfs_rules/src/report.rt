@@ -9,8 +9,8 @@ ghost use Rattle.gtfs_trip_rules.specs.KeptOrder.{AreKeptOf};
 
 use crate::passed::Passed;
 use gtfs_columns::{FeedIds, Found, Problem};
+use gtfs_stop_times::KeptStopTimes;
 use gtfs_table::Tables;
-use gtfs_trip_rules::KeptStopTimes;
 use std::marker::Model;
 
 /// The problems of a dataset, each once, in order; it lends the tables that were checked.

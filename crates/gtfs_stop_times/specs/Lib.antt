@@ -1,5 +1,12 @@
-pub mod Choices
-pub mod Optional
 pub mod ByTrip
+pub mod Choices
+pub mod Headsigned
 pub mod Joined
+pub mod KeptLists
+pub mod KeptStretches
+pub mod KeptTimes
+pub mod Optional
+pub mod RankedRows
 pub mod Renumbered
+pub mod RowNotes
+pub mod StopTimeOrder

@@ -1,4 +1,4 @@
-//! The stop times of a GTFS Schedule feed as typed values:
+//! The stop times of a GTFS Schedule feed as typed values, and how millions of them are kept:
 //! the rows of `stop_times.txt`, with numbers in place of ids.
 //!
 //! - A [`StopRow`] is a stop time without its trip. It is small and `Copy`: a time that may be
@@ -8,33 +8,50 @@
 //!   with the numbers of the standard.
 //! - A [`StopNo`] is the rank of an id among the ids of all stops, by bytes, from 0; a
 //!   [`HeadsignNo`] is the index of a headsign.
+//! - A [`StopTime`] is a row with its trip, its number in the file, and how its times stand.
+//!   [`KeptStopTimes`] are such rows as a check keeps them, until a feed gives them the numbers of
+//!   their headsigns ([`HeadsignedStopTimes`]).
 //! - [`StopTimesByTrip`] are the stop times of all trips, which may stay in the order of the file;
 //!   [`stretch`] finds the items of one trip in a list of those of all trips. A [`TripOf`] is a
 //!   trip of one of two feeds, whose stop times are joined.
 //! - [`room_for`] tells for how many items a list of millions asks.
 //!
 //! The numbers of choices are in `specs/Choices.antt`; a value that may be missing, and its four
-//! bytes, in `specs/Optional.antt`; the stop times of all trips, as they are seen and where they
-//! stand, in `specs/ByTrip.antt`, those of two feeds in `specs/Joined.antt`, and what other
-//! numbers make of a stop time in `specs/Renumbered.antt`.
+//! bytes, in `specs/Optional.antt`; when a stop time is reached and left in `specs/KeptTimes.antt`,
+//! the order of stop times in `specs/StopTimeOrder.antt`, how they are kept in
+//! `specs/KeptLists.antt`, and what they are given in `specs/Headsigned.antt`; the stop times of
+//! all trips, as they are seen and where they stand, in `specs/ByTrip.antt`, those of two feeds in
+//! `specs/Joined.antt`, and what other numbers make of a stop time in `specs/Renumbered.antt`.
 #![tactic(auto)]
 
 mod by_trip;
 mod choices;
+mod headsigned;
 mod joined;
+mod kept;
 mod marks;
 mod numbers;
 mod optional;
+mod ranges;
+mod ranked_rows;
+mod ranks;
 mod renumber;
 mod room;
+mod row_note;
+mod row_numbers;
 mod stop_row;
+mod stop_time;
 mod stretches;
+mod together;
 
 pub use by_trip::{RowRange, StopTimesByTrip};
 pub use choices::{DropOffType, PickupType, Timepoint};
+pub use headsigned::HeadsignedStopTimes;
 pub use joined::TripOf;
+pub use kept::KeptStopTimes;
 pub use numbers::{HeadsignNo, StopNo};
 pub use optional::{OptionalClock, OptionalHeadsign};
 pub use room::room_for;
 pub use stop_row::StopRow;
+pub use stop_time::{StopTime, Times};
 pub use stretches::stretch;

@@ -7,8 +7,8 @@ use Rattle.gtfs_table.specs.Rows.{is_row, numbers, records_in, Row}
 use Rattle.gtfs_table.specs.Tables.{Dataset}
 use Rattle.gtfs_table.specs.declared.file.File.{File}
 use Rattle.gtfs_table.proofs.RowFacts.{numbers_more, IsTurn}
-use Rattle.gtfs_trip_rules.specs.TripNotes.{AreEarlier}
-use Rattle.gtfs_trip_rules.specs.declared.trips.row.StopTime.{StopTime}
+use Rattle.gtfs_stop_times.specs.StopTimeOrder.{AreEarlier}
+use Rattle.gtfs_stop_times.specs.declared.stop_time.StopTime.{StopTime}
 
 -- ---- rows that are kept
 

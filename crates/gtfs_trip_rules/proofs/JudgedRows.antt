@@ -14,14 +14,14 @@ use Rattle.gtfs_columns.specs.steps.Found.{Reports}
 use Rattle.gtfs_field.proofs.NumberFacts.{number_itself}
 use Rattle.gtfs_columns.proofs.BoolFacts.{and_parts, same_test}
 use Rattle.gtfs_columns.proofs.SiteFacts.{text_is, text_itself}
-use Rattle.gtfs_trip_rules.specs.KeptTimes.{departs, is_untimed}
+use Rattle.gtfs_stop_times.specs.KeptTimes.{departs, is_untimed}
 use Rattle.gtfs_trip_rules.specs.StopTimePicks.{breaks_order}
 use Rattle.gtfs_trip_rules.specs.TripJudged.{each_after, ends_trip, goes_on, is_end_untimed, is_late, last_of, left_of, repeats_last, AddsOfRow}
 use Rattle.gtfs_trip_rules.specs.TripNumbers.{AllNumbered, IsNumbered}
 use Rattle.gtfs_trip_rules.specs.TripOrder.{ends, follows, is_left_later, left_before, repeats, rows_before, same_trip, InOrder}
 use Rattle.gtfs_trip_rules.specs.TripStopTimes.{TripStopTime, trip_stop_time}
 use Rattle.gtfs_trip_rules.specs.declared.trips.judge.Last.{Last}
-use Rattle.gtfs_trip_rules.specs.declared.trips.row.StopTime.{StopTime}
+use Rattle.gtfs_stop_times.specs.declared.stop_time.StopTime.{StopTime}
 use Rattle.gtfs_trip_rules.proofs.SplitLists.{before_more}
 use Rattle.gtfs_trip_rules.proofs.TripReports.{before_end, map_or, rows_from_here, seen, seen_all, seen_more}
 

@@ -17,11 +17,11 @@ use Rattle.gtfs_trip_rules.specs.declared.stop_times.reading.Reading.TheVariants
 use Rattle.gtfs_stop_times.specs.declared.choices.Timepoint.{Timepoint}
 use Rattle.gtfs_stop_times.specs.declared.choices.DropOffType.TheVariants as drop_off
 use Rattle.gtfs_stop_times.specs.declared.choices.PickupType.TheVariants as pickup
-use Rattle.gtfs_trip_rules.specs.declared.trips.row.Times.{Times}
+use Rattle.gtfs_stop_times.specs.declared.stop_time.Times.{Times}
 use Rattle.gtfs_trip_rules.specs.Kept.{Keeps, KeepsRow, named_stop_number}
 use Rattle.gtfs_stop_times.specs.Choices.{drop_off_code, pickup_code, timepoint_code}
-use Rattle.gtfs_trip_rules.specs.KeptRow.{kept_row, times_of, with_trip}
-use Rattle.gtfs_trip_rules.specs.KeptTimes.{are_clear, is_placed}
+use Rattle.gtfs_trip_rules.specs.KeptRow.{kept_row, times_of}
+use Rattle.gtfs_stop_times.specs.KeptTimes.{with_trip, are_clear, is_placed}
 use Rattle.gtfs_trip_rules.specs.Readings.{is_blank, is_fault, text_of, value_in}
 use Rattle.gtfs_trip_rules.specs.StopTimes.{stop_time_text, AreNumbersOf, IsReading, IsStopTime}
 use Rattle.gtfs_trip_rules.specs.TripNotes.{trip_note}

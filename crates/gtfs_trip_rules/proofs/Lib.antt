@@ -1,8 +1,6 @@
-pub mod ByTripFacts
 pub mod CoveredTripFacts
 pub mod DayFacts
 pub mod IdleFacts
-pub mod JoinedLists
 pub mod KeptFacts
 pub mod PeriodFacts
 pub mod PeriodReports
@@ -23,18 +21,12 @@ pub mod TripCountFacts
 pub mod TripNumberFacts
 pub mod TripPicks
 pub mod TripPositions
-mod TripRanks
 pub mod TripReports
 pub mod TripRestated
 pub mod TripSorted
 pub mod TripStopTimeFacts
 pub mod TripStopTimeOrder
 mod TripPlaced
-mod HeadsignedFacts
-mod KeptListFacts
-mod PlaceFacts
 mod EarlierRows
 mod JudgedRows
-mod StretchFacts
 mod TogetherRows
-pub mod RowNumberFacts

@@ -23,9 +23,9 @@ use Rattle.gtfs_columns.specs.Problems.{Problem, lists_problem}
 use Rattle.gtfs_columns.specs.steps.Found.{Reports, is_same}
 use Rattle.gtfs_columns.proofs.BoolFacts.{and_parts}
 use Rattle.gtfs_columns.proofs.SiteFacts.{problem_at}
-use Rattle.gtfs_trip_rules.specs.KeptLists.{no_note, no_row, noted_row}
-use Rattle.gtfs_trip_rules.specs.KeptStretches.{AreRising}
-use Rattle.gtfs_trip_rules.specs.KeptTimes.{is_placed, is_untimed}
+use Rattle.gtfs_stop_times.specs.KeptLists.{no_note, no_row, noted_row}
+use Rattle.gtfs_stop_times.specs.KeptStretches.{AreRising}
+use Rattle.gtfs_stop_times.specs.KeptTimes.{is_placed, is_untimed}
 use Rattle.gtfs_trip_rules.specs.StopTimePicks.{breaks_order}
 use Rattle.gtfs_trip_rules.specs.TripCounts.{AreKept}
 use Rattle.gtfs_trip_rules.specs.TripJudged.{all_fit, are_together, ends_timed, ends_trip, fits, goes_on, is_end_untimed, is_late, last_of, names_trip, repeats_last, stands_with, AddsOfRow}
@@ -34,7 +34,7 @@ use Rattle.gtfs_trip_rules.specs.TripNumbers.{name_at, AllNumbered}
 use Rattle.gtfs_trip_rules.specs.TripOrder.{rows_before, InOrder}
 use Rattle.gtfs_trip_rules.specs.TripStopTimes.{trip_stop_time, trip_stop_times_in}
 use Rattle.gtfs_trip_rules.specs.declared.trips.judge.Judge.{Judge}
-use Rattle.gtfs_trip_rules.specs.declared.trips.row.StopTime.{StopTime}
+use Rattle.gtfs_stop_times.specs.declared.stop_time.StopTime.{StopTime}
 use Rattle.gtfs_trip_rules.proofs.JudgedRows.{all_told, same_trips, test_here, told_more}
 use Rattle.gtfs_trip_rules.proofs.SplitLists.{before_more}
 use Rattle.gtfs_trip_rules.proofs.TripCountFacts.{all_pass}

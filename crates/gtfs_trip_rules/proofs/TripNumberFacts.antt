@@ -13,15 +13,11 @@ use Rattle.std.proofs.Math.Seq.{get_or-append_seam}
 use Rattle.std.proofs.lemmas.List.{append_assoc, length-map, map-append}
 use Rattle.std.proofs.lemmas.List.Quantifiers.{position-Some}
 use Rattle.std.proofs.lemmas.List.Elements.{All-filter, All-push, All-tail}
-use Rattle.gtfs_trip_rules.specs.declared.trips.row.StopTime.{StopTime}
+use Rattle.gtfs_stop_times.specs.declared.stop_time.StopTime.{StopTime}
 use Rattle.gtfs_trip_rules.specs.TripNotes.{note_of}
 use Rattle.gtfs_trip_rules.specs.TripNumbers.{AllNumbered, AreNamed, AreNumbered, HaveNumbers, IsNumbered, Keeps, name_at, number_of_trip, other_number}
 use Rattle.gtfs_columns.proofs.SiteFacts.{text_is, text_itself}
-
--- a function that another one equals at each element
-pub map_alike : {X Y : Type 0} (f g : X → Y) (xs : List X) → All (λ x. f x ≡ g x) xs → map f xs ≡ map g xs
-map_alike f g [] same = refl
-map_alike f g (x ∷ xs) same = λ i. same 0 x (omega arith) i ∷ map_alike f g xs (All-tail (λ x. f x ≡ g x) x xs same) i
+use Rattle.gtfs_stop_times.proofs.KeptListFacts.{map_alike}
 
 module _ (trips : List (List ℕ)) where
   -- ---- a trip more that has no number yet

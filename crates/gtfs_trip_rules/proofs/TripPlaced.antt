@@ -9,12 +9,12 @@ use Rattle.std.proofs.lemmas.List.Sorted.{All-permutation}
 use Rattle.gtfs_table.specs.Tables.{Dataset}
 use Rattle.gtfs_trip_rules.specs.Kept.{AllKeep, Keeps}
 use Rattle.gtfs_trip_rules.specs.KeptOrder.{AreKeptOf}
-use Rattle.gtfs_trip_rules.specs.KeptTimes.{is_placed}
+use Rattle.gtfs_stop_times.specs.KeptTimes.{is_placed}
 use Rattle.gtfs_trip_rules.specs.TripNotes.{note_of, rows_of_notes, trip_notes_in, Noted}
 use Rattle.gtfs_trip_rules.specs.TripNumbers.{AllNumbered, AreNumbered, AreRowsNumbered, name_at, number_of_trip}
-use Rattle.gtfs_trip_rules.specs.TripOrder.{kept_cmp}
+use Rattle.gtfs_stop_times.specs.StopTimeOrder.{kept_cmp}
 use Rattle.gtfs_trip_rules.specs.TripStopTimes.{trip_stop_time}
-use Rattle.gtfs_trip_rules.specs.declared.trips.row.StopTime.{StopTime}
+use Rattle.gtfs_stop_times.specs.declared.stop_time.StopTime.{StopTime}
 use Rattle.gtfs_trip_rules.proofs.TripNumberFacts.{kept_numbers}
 use Rattle.gtfs_trip_rules.proofs.TripSorted.{numbered_in_order}
 use Rattle.gtfs_trip_rules.proofs.TripStopTimeFacts.{rows_kept, sequenced_rows}

@@ -16,7 +16,7 @@ use Rattle.gtfs_table.specs.Blanks.{cut}
 use Rattle.gtfs_table.specs.declared.file.File.TheVariants as file
 use Rattle.gtfs_columns.specs.declared.code.Code.{Code}
 use Rattle.gtfs_columns.specs.declared.code.Code.TheVariants as code
-use Rattle.gtfs_trip_rules.specs.declared.trips.row.StopTime.{StopTime}
+use Rattle.gtfs_stop_times.specs.declared.stop_time.StopTime.{StopTime}
 use Rattle.gtfs_columns.specs.steps.Found.{Adds, Reports, is_same}
 use Rattle.gtfs_columns.specs.steps.Picks.{at_column}
 use Rattle.gtfs_columns.specs.Problems.{Problem, holds_in, lists_problem, is_problem}

@@ -19,9 +19,10 @@ use Rattle.gtfs_field.specs.TextOrder.{text_cmp}
 use Rattle.gtfs_table.specs.Tables.{Dataset, Records}
 use Rattle.gtfs_table.specs.declared.file.File.TheVariants as file
 use Rattle.gtfs_table.specs.Rows.{is_row, records_in}
-use Rattle.gtfs_trip_rules.specs.declared.trips.row.StopTime.{StopTime}
+use Rattle.gtfs_stop_times.specs.declared.stop_time.StopTime.{StopTime}
 use Rattle.gtfs_trip_rules.specs.TripNumbers.{AllNumbered, IsNumbered}
-use Rattle.gtfs_trip_rules.specs.TripOrder.{kept_cmp, row_cmp, AreInOrder, InOrder}
+use Rattle.gtfs_stop_times.specs.StopTimeOrder.{kept_cmp}
+use Rattle.gtfs_trip_rules.specs.TripOrder.{row_cmp, AreInOrder, InOrder}
 use Rattle.gtfs_trip_rules.specs.TripStopTimes.{TripStopTime, has_trip_stop_time, trip_stop_time, trip_stop_time_in, trip_stop_times_in}
 use Rattle.gtfs_columns.proofs.BoolFacts.{no_test}
 use Rattle.gtfs_columns.proofs.FoundFacts.{sorted_mapped}

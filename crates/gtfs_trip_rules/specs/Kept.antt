@@ -9,7 +9,7 @@ use Rattle.gtfs_columns.specs.IdNumbers.{number_of_id}
 use Rattle.gtfs_columns.specs.ReadRules.{IsReadAs}
 use Rattle.gtfs_columns.specs.Reads.{amount_of, choice_of, word_of}
 use Rattle.gtfs_stop_times.specs.Choices.{drop_off_code, pickup_code, timepoint_code}
-use Rattle.gtfs_trip_rules.specs.declared.trips.row.StopTime.{StopTime}
+use Rattle.gtfs_stop_times.specs.declared.stop_time.StopTime.{StopTime}
 use Rattle.gtfs_trip_rules.specs.StopTimes.{stop_time_text}
 
 -- ---- a row

@@ -2,9 +2,9 @@
 use Rattle.std.specs.Prelude.{◌≡◌, true, List}
 use Rattle.std.specs.List.{All}
 use Rattle.gtfs_table.specs.Tables.{Dataset}
-use Rattle.gtfs_trip_rules.specs.declared.trips.row.StopTime.{StopTime}
+use Rattle.gtfs_stop_times.specs.declared.stop_time.StopTime.{StopTime}
 use Rattle.gtfs_trip_rules.specs.Kept.{AllKeep}
-use Rattle.gtfs_trip_rules.specs.KeptTimes.{is_placed}
+use Rattle.gtfs_stop_times.specs.KeptTimes.{is_placed}
 use Rattle.gtfs_trip_rules.specs.TripOrder.{AreInOrder}
 
 pub record AreKeptOf (d : Dataset) (rows : List StopTime) : Type 0 where

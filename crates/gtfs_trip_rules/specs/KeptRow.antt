@@ -5,9 +5,9 @@ use Rattle.gtfs_stop_times.specs.declared.choices.DropOffType.TheVariants as dro
 use Rattle.gtfs_stop_times.specs.declared.choices.PickupType.TheVariants as pickup
 use Rattle.gtfs_stop_times.specs.declared.stop_row.StopRow.{StopRow}
 use Rattle.gtfs_trip_rules.specs.declared.stop_times.columns.ReadStopTime.{ReadStopTime}
-use Rattle.gtfs_trip_rules.specs.declared.trips.row.StopTime.{StopTime}
-use Rattle.gtfs_trip_rules.specs.declared.trips.row.Times.{Times}
-use Rattle.gtfs_trip_rules.specs.declared.trips.row.Times.TheVariants as times
+use Rattle.gtfs_stop_times.specs.declared.stop_time.StopTime.{StopTime}
+use Rattle.gtfs_stop_times.specs.declared.stop_time.Times.{Times}
+use Rattle.gtfs_stop_times.specs.declared.stop_time.Times.TheVariants as times
 use Rattle.gtfs_trip_rules.specs.Readings.{is_fault, value_in}
 
 -- how the times of a row stand that has a sequence or none, and of which one has a fault or none
@@ -35,14 +35,4 @@ kept_row s stop = record {
   has_headsign = s.has_headsign;
   times = times_of (is_some (value_in s.stop_sequence)) (is_fault s.arrival_time || is_fault s.departure_time);
   stop_row = row_said s stop;
-}
-
--- the row with the number of its trip
-abbrev pub with_trip : StopTime → ℕ → StopTime
-with_trip r trip = record {
-  trip = trip;
-  row = r.row;
-  has_headsign = r.has_headsign;
-  times = r.times;
-  stop_row = r.stop_row;
 }

@@ -1,16 +1,9 @@
 pub mod CoveredTrips
-pub mod Headsigned
-pub mod Headsigns
 pub mod Kept
-pub mod KeptLists
 pub mod KeptOrder
-pub mod KeptPlaces
 pub mod KeptRow
-pub mod KeptStretches
-pub mod KeptTimes
 pub mod PeriodView
 pub mod Readings
-pub mod RowNotes
 pub mod RowsById
 pub mod ServiceFields
 pub mod ServiceRows

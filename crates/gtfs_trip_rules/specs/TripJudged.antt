@@ -8,11 +8,11 @@ use Rattle.gtfs_columns.specs.declared.code.Code.{Code}
 use Rattle.gtfs_columns.specs.declared.code.Code.TheVariants as code
 use Rattle.gtfs_columns.specs.steps.Found.{Adds, is_same}
 use Rattle.gtfs_columns.specs.Problems.{Problem, kept}
-use Rattle.gtfs_trip_rules.specs.KeptTimes.{arrives, departs, is_untimed}
+use Rattle.gtfs_stop_times.specs.KeptTimes.{arrives, departs, is_untimed}
 use Rattle.gtfs_trip_rules.specs.TripOrder.{is_left_later}
 use Rattle.gtfs_trip_rules.specs.declared.trips.judge.Judge.{Judge}
 use Rattle.gtfs_trip_rules.specs.declared.trips.judge.Last.{Last}
-use Rattle.gtfs_trip_rules.specs.declared.trips.row.StopTime.{StopTime}
+use Rattle.gtfs_stop_times.specs.declared.stop_time.StopTime.{StopTime}
 
 -- ---- a row after the last one
 

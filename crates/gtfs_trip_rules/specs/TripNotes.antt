@@ -4,11 +4,10 @@ use Rattle.std.specs.List.{All, filter_map}
 use Rattle.std.specs.Option.{unwrap_or}
 use Rattle.gtfs_table.specs.Tables.{Dataset}
 use Rattle.gtfs_table.specs.declared.file.File.TheVariants as file
-use Rattle.gtfs_trip_rules.specs.declared.trips.row.StopTime.{StopTime}
+use Rattle.gtfs_stop_times.specs.declared.stop_time.StopTime.{StopTime}
 use Rattle.gtfs_table.specs.Rows.{rows}
 use Rattle.gtfs_columns.specs.Rows.{is_empty_in, word_in}
-use Rattle.gtfs_trip_rules.specs.KeptRow.{with_trip}
-use Rattle.gtfs_trip_rules.specs.KeptTimes.{is_placed}
+use Rattle.gtfs_stop_times.specs.KeptTimes.{with_trip, is_placed}
 use Rattle.gtfs_trip_rules.specs.TripStopTimes.{TripStopTime, trip_stop_time}
 use Rattle.gtfs_columns.specs.TripRules.{sequence_in, arrival_in, departure_in}
 
@@ -75,7 +74,3 @@ pub record NotesRow (number : Option ℕ) (kept : StopTime) (old new : List Stop
   pub trip : ℕ
   pub rows : new ≡ old ++ with_trip kept trip ∷ []
   pub known : (n : ℕ) → number ≡ Some n → trip ≡ n
-
--- all rows come before this one in the file
-abbrev pub AreEarlier : ℕ → List StopTime → Type 0
-AreEarlier n rows = All (λ r. r.row < n) rows

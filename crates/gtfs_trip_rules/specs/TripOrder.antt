@@ -6,7 +6,8 @@ use Rattle.std.specs.Ordering.{int_cmp, int_eq, nat_cmp, on, then_cmp}
 use Rattle.std.specs.declared.cmp.Ordering.{Ordering}
 use Rattle.gtfs_field.specs.TextOrder.{text_cmp}
 use Rattle.gtfs_table.specs.Tables.{Dataset}
-use Rattle.gtfs_trip_rules.specs.declared.trips.row.StopTime.{StopTime}
+use Rattle.gtfs_stop_times.specs.declared.stop_time.StopTime.{StopTime}
+use Rattle.gtfs_stop_times.specs.StopTimeOrder.{kept_cmp}
 use Rattle.gtfs_columns.specs.Values.{if_both}
 use Rattle.gtfs_trip_rules.specs.TripNumbers.{AllNumbered}
 use Rattle.gtfs_trip_rules.specs.TripStopTimes.{TripStopTime, trip_stop_time, trip_stop_times_in}
@@ -24,14 +25,6 @@ trip_cmp number = then_cmp (on number nat_cmp) text_cmp
 
 abbrev pub row_cmp : (List ℕ → ℕ) → TripStopTime → TripStopTime → Ordering
 row_cmp number = then_cmp (on (λ r. r.trip_id) (trip_cmp number)) (then_cmp (on (λ r. r.sequence) int_cmp) (on (λ r. r.row) nat_cmp))
-
--- rows as they are kept, by the numbers of their trips
-abbrev pub kept_cmp : StopTime → StopTime → Ordering
-kept_cmp = then_cmp (on (λ r. r.trip) nat_cmp) (then_cmp (on (λ r. pos r.stop_row.stop_sequence) int_cmp) (on (λ r. r.row) nat_cmp))
-
--- a row by its trip and its sequence
-abbrev pub rank : StopTime → ℕ
-rank row = row.trip * 2 ^ 32 + row.stop_row.stop_sequence
 
 -- the rows of a dataset, each once and in their order, by some numbers of trips
 pub record InOrder (d : Dataset) (rows : List TripStopTime) : Type 0 where

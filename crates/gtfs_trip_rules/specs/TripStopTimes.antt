@@ -3,8 +3,8 @@ use Rattle.std.specs.Prelude.{ℕ, ◌&&◌, Bool, List, [], map, filter, Option
 use Rattle.std.specs.Option.{unwrap_or}
 use Rattle.gtfs_table.specs.Tables.{Dataset}
 use Rattle.gtfs_table.specs.declared.file.File.TheVariants as file
-use Rattle.gtfs_trip_rules.specs.declared.trips.row.StopTime.{StopTime}
-use Rattle.gtfs_trip_rules.specs.KeptTimes.{arrives, departs, is_untimed}
+use Rattle.gtfs_stop_times.specs.declared.stop_time.StopTime.{StopTime}
+use Rattle.gtfs_stop_times.specs.KeptTimes.{arrives, departs, is_untimed}
 use Rattle.gtfs_table.specs.Rows.{rows}
 use Rattle.gtfs_columns.specs.Rows.{is_empty_in, word_in}
 use Rattle.gtfs_columns.specs.TripRules.{sequence_in, arrival_in, departure_in}

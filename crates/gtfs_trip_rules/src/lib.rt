@@ -7,9 +7,6 @@
 //! - [`report_overlaps`] judges the periods of the frequencies of a trip, and [`report_services`]
 //!   the days on which a service runs.
 //!
-//! The stop times are kept as they were read ([`KeptStopTimes`]), until a feed gives them the
-//! numbers of their headsigns ([`HeadsignedStopTimes`]) and keeps their rows ([`HeadsignedRows`]).
-//!
 //! [`RowsById`] has the rows of a file by an id that several may have.
 //!
 //! Each call adds to what was found exactly those of its problems that the dataset has.
@@ -25,9 +22,5 @@ pub use services::by_id::RowsById;
 pub use services::report_services;
 pub use stop_times::report_stop_times;
 pub use trips::counts::report_counts;
-pub use trips::headsigned::HeadsignedStopTimes;
-pub use trips::headsigned_rows::HeadsignedRows;
-pub use trips::kept::KeptStopTimes;
 pub use trips::notes::TripNotes;
 pub use trips::order::report_order;
-pub use trips::row::StopTime;

@@ -19,7 +19,8 @@ ghost use Rattle.gtfs_trip_rules.specs.StopTimePicks.{in_rows, in_stop_times};
 ghost use Rattle.gtfs_trip_rules.specs.Kept.{AllKeep};
 ghost use Rattle.gtfs_trip_rules.specs.Readings.{text_of, value_in};
 ghost use Rattle.gtfs_trip_rules.specs.StopTimes.{AreNamedRows, AreNumbersOf, AreStopTimeColumns, IsRow, IsStopTime, ReportsOfRow};
-ghost use Rattle.gtfs_trip_rules.specs.TripNotes.{trip_notes_in, AreEarlier};
+ghost use Rattle.gtfs_trip_rules.specs.TripNotes.{trip_notes_in};
+ghost use Rattle.gtfs_stop_times.specs.StopTimeOrder.{AreEarlier};
 ghost use Rattle.gtfs_trip_rules.specs.TripTexts.{note_read};
 
 use crate::stop_times::columns::{ReadStopTime, StopTimeColumns};

@@ -1,16 +1,6 @@
-pub(crate) mod by_trip;
 pub(crate) mod counts;
-pub(crate) mod headsigned;
-pub(crate) mod headsigned_rows;
 pub(crate) mod judge;
-pub(crate) mod kept;
 pub(crate) mod notes;
 pub(crate) mod numbers;
 pub(crate) mod order;
-pub(crate) mod places;
-pub(crate) mod ranks;
-pub(crate) mod row;
 pub(crate) mod row_counts;
-pub(crate) mod row_note;
-pub(crate) mod row_numbers;
-pub(crate) mod stretches;

@@ -6,7 +6,7 @@ use Rattle.gtfs_columns.specs.declared.feed_ids.FeedIds.{FeedIds}
 use Rattle.gtfs_columns.specs.steps.FeedIds.{AreIdsOf}
 use Rattle.gtfs_rules.specs.StopTimes.{AreStopTimes}
 use Rattle.gtfs_trip_rules.specs.KeptOrder.{AreKeptOf}
-use Rattle.gtfs_trip_rules.specs.declared.trips.row.StopTime.{StopTime}
+use Rattle.gtfs_stop_times.specs.declared.stop_time.StopTime.{StopTime}
 
 -- the problems of a dataset, its ids and its stop times
 pub record IsChecked (d : Dataset) (is : FeedIds) (ps : List Problem) (ss : List StopTime) : Type 0 where

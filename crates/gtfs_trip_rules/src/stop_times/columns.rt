@@ -13,11 +13,12 @@ use crate::stop_times::reading::{
     Reading, read_beside, read_clock, read_drop_off_type, read_number, read_pickup_type,
     read_timepoint,
 };
-use crate::trips::row::{StopTime, Times, small_number};
+use crate::trips::numbers::small_number;
 use gtfs_columns::{Code, Kind, fault_code};
 use gtfs_field::{Clock, OutOfMemory};
 use gtfs_stop_times::{
-    DropOffType, OptionalClock, OptionalHeadsign, PickupType, StopNo, StopRow, Timepoint,
+    DropOffType, OptionalClock, OptionalHeadsign, PickupType, StopNo, StopRow, StopTime, Timepoint,
+    Times,
 };
 use gtfs_table::{File, Record, Tables};
 

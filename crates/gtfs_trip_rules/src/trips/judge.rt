@@ -1,9 +1,9 @@
 ghost use Rattle.std.specs.Prelude.{◌≡◌, ◌&&◌, ◌∷◌, [], List, false, true};
 ghost use Rattle.gtfs_trip_rules.specs.TripJudged.{as_last, ends_timed, fits, goes_on, is_late, left_of, names_trip, repeats_last, rises, Judges};
-ghost use Rattle.gtfs_trip_rules.specs.declared.trips.row.StopTime.{StopTime as StopTimeValue};
+ghost use Rattle.gtfs_stop_times.specs.declared.stop_time.StopTime.{StopTime as StopTimeValue};
 
 use crate::trips::order::is_left_later;
-use crate::trips::row::StopTime;
+use gtfs_stop_times::StopTime;
 
 // What is kept of the last row.
 #[derive(Clone, Copy)]

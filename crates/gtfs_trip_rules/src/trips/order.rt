@@ -11,11 +11,10 @@ ghost use Rattle.gtfs_trip_rules.specs.TripNotes.{trip_notes_in};
 ghost use Rattle.gtfs_trip_rules.specs.TripOrder.{is_left_later, AreInOrder};
 
 use crate::trips::judge::Judge;
-use crate::trips::kept::KeptStopTimes;
 use crate::trips::notes::TripNotes;
-use crate::trips::row::StopTime;
 use gtfs_columns::{Code, FileName, Found, Problem};
 use gtfs_field::OutOfMemory;
+use gtfs_stop_times::{KeptStopTimes, StopTime};
 use gtfs_table::{File, Tables};
 
 /// Reports what the order of stop times breaks: a sequence of a trip that comes twice (E09), a

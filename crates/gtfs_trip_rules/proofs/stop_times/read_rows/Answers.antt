@@ -7,7 +7,7 @@ use Rattle.gtfs_trip_rules.specs.StopTimePicks.{in_rows}
 use Rattle.gtfs_trip_rules.specs.StopTimes.{AreStopTimeColumns}
 use Rattle.gtfs_columns.proofs.RowFacts.{reported_all, reported_more, reported_none}
 use Rattle.gtfs_trip_rules.proofs.StopTimePasses.{rows_reported, silent_rows}
-use Rattle.gtfs_trip_rules.specs.TripNotes.{AreEarlier}
+use Rattle.gtfs_stop_times.specs.StopTimeOrder.{AreEarlier}
 use Rattle.gtfs_trip_rules.proofs.EarlierRows.{before_more, earlier_rows}
 use Rattle.gtfs_trip_rules.proofs.TripStopTimeFacts.{notes_more, trip_notes_read}
 use Rattle.gtfs_trip_rules.proofs.stop_times.read_rows.Goals as goal

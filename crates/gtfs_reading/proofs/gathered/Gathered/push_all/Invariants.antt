@@ -1,10 +1,10 @@
-use Rattle.std.proofs.Common.{◌≡◌, take}
+use Rattle.std.proofs.Common.{◌≡◌, drop, take}
 use Rattle.gtfs_reading.specs.Gathering.{AreGathered}
 use Rattle.gtfs_reading.proofs.gathered.Gathered.push_all.Given as goal
 
--- the stop times so far were given their headsigns, and all are those that they were
+-- the stop times so far were given their headsigns, and the others are left
 abbrev pub invariant-loop-at : goal.invariant-loop-at
 invariant-loop-at l = record {
-  so_far : AreGathered l.tables (take l.at l.initial.self.stop_times.stop_times) l.self;
-  same : l.self.stop_times.stop_times ≡ l.initial.self.stop_times.stop_times;
+  so_far : AreGathered l.tables (take l.at l.initial.self.stop_times.left) l.self;
+  left : l.self.stop_times.left ≡ drop l.at l.initial.self.stop_times.left;
 }

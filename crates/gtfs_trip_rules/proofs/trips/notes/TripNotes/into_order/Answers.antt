@@ -2,9 +2,9 @@ use Rattle.std.proofs.Common.{◌≡◌, sym}
 use Rattle.std.specs.List.Sorted.{IsSorted}
 use Rattle.std.proofs.lemmas.Result.{IfOk-weaker}
 use Rattle.gtfs_columns.specs.steps.Ids.{ids_of}
-use Rattle.gtfs_trip_rules.specs.KeptStretches.{AreRising}
-use Rattle.gtfs_trip_rules.specs.KeptTimes.{is_placed}
-use Rattle.gtfs_trip_rules.specs.TripOrder.{kept_cmp}
+use Rattle.gtfs_stop_times.specs.KeptStretches.{AreRising}
+use Rattle.gtfs_stop_times.specs.KeptTimes.{is_placed}
+use Rattle.gtfs_stop_times.specs.StopTimeOrder.{kept_cmp}
 use Rattle.gtfs_trip_rules.proofs.TogetherRows.{rising}
 use Rattle.gtfs_trip_rules.proofs.TripCountFacts.{all_pass}
 use Rattle.gtfs_trip_rules.proofs.TripPlaced.{kept_in_order, placed_of}

@@ -4,11 +4,11 @@ use Rattle.std.proofs.lemmas.Bool.{eqb-true as same_number}
 use Rattle.std.proofs.lemmas.List.{map-append, reverse-append}
 use Rattle.gtfs_columns.specs.IdNumbers.{number_among}
 use Rattle.gtfs_columns.specs.steps.Ids.{ids_of, number_with}
-use Rattle.gtfs_trip_rules.specs.KeptLists.{HasNoHeadsign}
-use Rattle.gtfs_trip_rules.specs.KeptRow.{with_trip}
-use Rattle.gtfs_trip_rules.specs.KeptTimes.{is_placed}
+use Rattle.gtfs_stop_times.specs.KeptLists.{HasNoHeadsign}
+use Rattle.gtfs_stop_times.specs.KeptTimes.{with_trip, is_placed}
 use Rattle.gtfs_trip_rules.specs.TripJudged.{Judges}
-use Rattle.gtfs_trip_rules.specs.TripNotes.{note_of, said, AreEarlier}
+use Rattle.gtfs_trip_rules.specs.TripNotes.{note_of, said}
+use Rattle.gtfs_stop_times.specs.StopTimeOrder.{AreEarlier}
 use Rattle.gtfs_trip_rules.specs.TripNumbers.{name_at, other_number}
 use Rattle.std.specs.Option.{option_or, unwrap_or}
 use Rattle.gtfs_trip_rules.proofs.TripCountFacts.{count_fits, none_named, one_kept, still_kept}

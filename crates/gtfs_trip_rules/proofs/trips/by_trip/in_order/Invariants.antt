@@ -1,7 +1,0 @@
-use Rattle.std.proofs.Common.{◌≡◌, take}
-use Rattle.gtfs_trip_rules.specs.Headsigns.{rows_at}
-use Rattle.gtfs_trip_rules.proofs.trips.by_trip.in_order.Given as goal
-
--- the rows so far
-abbrev pub invariant-loop-at : goal.invariant-loop-at
-invariant-loop-at l = l.list.items ≡ rows_at l.rows (take l.at l.order)

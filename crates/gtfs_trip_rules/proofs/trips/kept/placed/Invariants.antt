@@ -1,8 +1,0 @@
-use Rattle.std.proofs.Common.{◌≡◌, filter, get_or, take}
-use Rattle.gtfs_trip_rules.specs.KeptLists.{no_note}
-use Rattle.gtfs_trip_rules.specs.RowNotes.{noted}
-use Rattle.gtfs_trip_rules.specs.KeptTimes.{is_placed}
-use Rattle.gtfs_trip_rules.proofs.trips.kept.placed.Given as goal
-
-abbrev pub invariant-loop-at : goal.invariant-loop-at
-invariant-loop-at l = l.rows ≡ filter (λ n. is_placed (noted (get_or l.notes n no_note)).times) (take l.at l.order)
