@@ -52,7 +52,7 @@ use Rattle.gtfs_runs.proofs.TimedTrips.{rows_timed, trip_times}
 -- ---- one stop time
 
 -- what is asked of the element at a position
-asked_here : {X : Type 0} (a : Bool) (q : X → Bool) (xs : List X) (n r : ℕ) (d : X) → n < length xs → (a && (r == n) && if_there (slice_get xs r) q) ≡ (a && (r == n) && q (get_or xs n d))
+pub asked_here : {X : Type 0} (a : Bool) (q : X → Bool) (xs : List X) (n r : ℕ) (d : X) → n < length xs → (a && (r == n) && if_there (slice_get xs r) q) ≡ (a && (r == n) && q (get_or xs n d))
 asked_here a q xs n r d within = elim (cases_Bool (r == n)) [
   | inl same ↦ ap (λ o. a && (r == n) && if_there o q) (ap (slice_get xs) (eqb-true r n same) ∙ slice_get-get_or xs n d within)
   | inr other ↦ rw other (never a (if_there (slice_get xs r) q) (q (get_or xs n d)))
@@ -62,11 +62,11 @@ asked_here a q xs n r d within = elim (cases_Bool (r == n)) [
     never true x y = refl
     never false x y = refl
 
-alone : (b : Bool) → (b && true) ≡ b
+pub alone : (b : Bool) → (b && true) ≡ b
 alone true = refl
 alone false = refl
 
-never : (b : Bool) → (b && false) ≡ false
+pub never : (b : Bool) → (b && false) ≡ false
 never true = refl
 never false = refl
 

@@ -55,16 +55,6 @@ pub filled_under : (choice : Times) (rs : List StopRow) → (is_interpolated cho
 filled_under times.Given rs is = absurd (false≢true is)
 filled_under times.Interpolated rs is = refl
 
--- what is passed of them
-pub passed : (choice : Times) (p : Parts) → IsSoundParts p → (t : ℕ) (rs own : List StopRow) (place : List Bool) (found : List Passing) → slice_get (stop_rows_by_trip p) t ≡ Some rs
-    → own ≡ timed_stop_times choice rs
-    → ((r : Parts) (s : ℕ) (u : Trip) (fs : List Frequency) → place ≡ members (content_of_parts r) (text_of_number (stop_ids r) s) → found ≡ passings_of r s u own fs)
-    → (s : ℕ) (u : Trip) (rows : List StopRow) (fs : List Frequency) → place ≡ members (content_of_parts p) (text_of_number (stop_ids p) s)
-    → slice_get (stop_rows_by_trip (timed_parts choice p)) t ≡ Some rows → found ≡ passings_of (timed_parts choice p) s u rows fs
-passed choice p sound t rs own place found at is told s u rows fs here there =
-    let q = timed_parts choice p in
-    told q s u fs here ∙ ap (λ l. passings_of q s u l fs) (same_Some own rows (sym (rows_timed choice p sound t rs own at is) ∙ there))
-
 -- ---- their stops are the same
 
 stop-kept : (b : Bool) (r : StopRow) (t : Option ℕ) → (if b then r else record r { arrival_time = t; departure_time = t }).stop_id.0 ≡ r.stop_id.0

@@ -339,14 +339,6 @@ module _ (p : Parts) (sound : IsSoundParts p) (s t : ℕ) (row : Trip) (rs : Lis
         swap : (a b m : ℕ) → a + b + m ≡ a + m + b
         swap a b m = omega arith
 
-    pub listed_found : (old new : List Stopping) (ps : List LaneValue) → new ≡ old ++ map (stopping_at (stops_in rs) row.service_id.0 t (first_left rs)) (passings_of p s row rs [])
-        → AreFound p s t old ps → AreFound p s (t + 1) new ps
-    listed_found old new ps pushed was = record {
-      told = listed_told old new (λ k e. times_told k e ps) (length ps) pushed was.told;
-      within = was.within;
-      runs = was.runs;
-    }
-
 -- ---- the lanes of the frequencies of a trip
 
 -- at most one period starts a run at a second
@@ -461,15 +453,3 @@ module _ (p : Parts) (sound : IsSoundParts p) (s t : ℕ) (row : Trip) (rs : Lis
     where
       sums : (a b m : ℕ) → a + (b + m) ≡ a + b + m
       sums a b m = omega arith
-
-  pub periods_found : (listed : List Stopping) (old new : List LaneValue)
-      → ((k : ℕ) (e : Event) → times_told k e new ≡ times_told k e old + cond (row.service_id.0 == k) (times_passed_in t e (passings_of p s row rs fs) fs) 0)
-      → length new ≡ length old + length fs * length (passings_of p s row rs fs)
-      → ((n : ℕ) → row.service_id.0 < n → All (λ lane. lane.service < n) old → All (λ lane. lane.service < n) new)
-      → ((k : Content) (v : content.Trip) → slice_get k.trips t ≡ Some v → v.frequencies ≡ map frequency_of fs → All (IsPeriodLane k) old → All (IsPeriodLane k) new)
-      → AreFound p s t listed old → AreFound p s (t + 1) listed new
-  periods_found listed old new told count serve kind was = record {
-    told = periods_told listed (λ k e. times_told k e old) (λ k e. times_told k e new) (length old) (length new) told count was.told;
-    within = serve (length p.services) (trip_service p sound t row at_trip) was.within;
-    runs = kind (content_of_parts p) (trip_of p row rs fs) (content_trip p t row rs fs at_trip at_rows at_periods) refl was.runs;
-  }

@@ -14,6 +14,7 @@ mod listed;
 mod lists;
 mod numbered;
 mod passing;
+mod place_rows;
 mod split;
 
 use crate::filled_lane::FilledLane;

@@ -142,7 +142,11 @@ fn add_row(
 }
 
 // This stop time of a trip at a position.
-fn row_at(trip: TripNo, position: usize, stop_time: &StopRow) -> Result<DepartureRow, OutOfMemory>
+pub(crate) fn row_at(
+    trip: TripNo,
+    position: usize,
+    stop_time: &StopRow,
+) -> Result<DepartureRow, OutOfMemory>
     ensures { IfOk result (λ row. row ≡ noted_row trip.0 position stop_time.now) }
 {
     Ok(DepartureRow::new(small_number(trip.0)?, small_number(position)?, stop_time))

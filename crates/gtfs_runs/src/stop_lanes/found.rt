@@ -1,4 +1,4 @@
-ghost use Rattle.std.specs.Prelude.{◌≡◌, ◌≤◌, ◌<◌, ◌+◌, ◌*◌, ◌++◌, ◌==◌, ℕ, All, IfOk, List, OnOk, Some, [], cond, length, map, not, slice_get, slice_index_or};
+ghost use Rattle.std.specs.Prelude.{◌≡◌, ◌≤◌, ◌<◌, ◌+◌, ◌*◌, ◌==◌, ◌∷◌, ℕ, All, IfOk, List, OnOk, Some, [], cond, length, map, not, slice_get, slice_index_or};
 ghost use Rattle.gtfs_rows.specs.Content.{Content};
 ghost use Rattle.gtfs_rows.specs.Rows.{Trip};
 ghost use Rattle.gtfs_rows.specs.Trips.{frequencies_by_trip, stop_rows_by_trip};
@@ -10,20 +10,21 @@ ghost use Rattle.gtfs_rows.specs.declared.parts.Parts.{Parts};
 ghost use Rattle.gtfs_runs.specs.StopLanes.{period_value};
 ghost use Rattle.gtfs_runs.specs.declared.event.Event.{Event as EventValue};
 ghost use Rattle.gtfs_runs.specs.steps.Courses.{AreServed, stopping_of};
-ghost use Rattle.gtfs_runs.specs.steps.Finds.{AreFound, HasRuns, stopping_at, times_passed, times_passed_in, times_told};
+ghost use Rattle.gtfs_runs.specs.steps.Finds.{AreFound, HasRuns, times_passed, times_passed_in, times_told};
 ghost use Rattle.gtfs_runs.specs.steps.Groups.{trip_group};
-ghost use Rattle.gtfs_runs.specs.steps.Passings.{ArePassings, first_left};
+ghost use Rattle.gtfs_runs.specs.steps.Passings.{first_left};
+ghost use Rattle.gtfs_runs.specs.steps.RowFinds.{AreAdded, IsInside};
 ghost use Rattle.gtfs_times.specs.TimedRows.{timed_parts};
-ghost use Rattle.gtfs_times.specs.declared.times.Times.{Times as Choice};
 
 use crate::place::Place;
 use crate::step_lane::StepLane;
-use crate::stop_index::IndexedTrip;
+use crate::stop_index::{DepartureRow, IndexedTrip};
 use crate::stop_lanes::listed::Listed;
-use crate::stop_lanes::passing::{Passing, passings};
+use crate::stop_lanes::passing::Passing;
+use crate::stop_lanes::place_rows::place_rows;
 use gtfs_feed::Feed;
 use gtfs_field::OutOfMemory;
-use gtfs_rows::{Frequency, ServiceNo, StopRow, TripNo};
+use gtfs_rows::{Frequency, ServiceNo, TripNo};
 use gtfs_times::Times;
 use std::alloc::Global;
 
@@ -51,120 +52,66 @@ impl Found {
             (map (stopping_of feed.now) found.listed.items) (map period_value found.periods.items)) }
         ensures services { IfOk result (λ found. AreServed feed.now found.listed.items) }
     {
-        let parts = feed.parts();
-        let there = parts.stop_times.trips_at(alloc, place.members())?;
-        let mut listed = Vec::new(alloc);
-        let mut periods = Vec::new(alloc);
-        for number in 0..feed.trip_count() {
-            // Few trips come by, and nothing else of the others is looked at.
-            if there[number] {
-                add_trip(
-                    alloc,
-                    feed,
-                    place,
-                    TripNo(number),
-                    times,
-                    &mut listed,
-                    &mut periods,
-                )?;
-            }
-        }
-        Ok(Found { listed, periods })
+        feed.soundness();
+        let rows = place_rows(alloc, feed, place, times)?;
+        let mut found = Found {
+            listed: Vec::with_capacity(alloc, rows.len())?,
+            periods: Vec::new(alloc),
+        };
+        add_rows(feed, &rows, &mut found)?;
+        Ok(found)
     }
 }
 
-// Adds what leaves the place of one trip.
-fn add_trip(
-    alloc: Global,
-    feed: &Feed,
-    place: &Place,
-    trip: TripNo,
-    times: Times,
-    listed: &mut Vec<Listed>,
-    periods: &mut Vec<StepLane>,
-) -> Result<(), OutOfMemory>
-    requires trip { trip.0 < length feed.now.trips }
-    requires stops { length place.now ≡ length feed.now.stops }
-    ensures found { OnOk result ((s : ℕ)
-        → place.now ≡ members (content_of_parts feed.now) (text_of_number (stop_ids feed.now) s)
-        → AreFound (timed_parts times feed.now) s trip.0 (map (stopping_of feed.now) listed.old.items)
-        (map period_value periods.old.items)
-        → AreFound (timed_parts times feed.now) s (trip.0 + 1) (map (stopping_of feed.now) listed.new.items)
-        (map period_value periods.new.items)) }
-    ensures services { OnOk result (AreServed feed.now listed.old.items
-        → AreServed feed.now listed.new.items) }
+// Adds what leaves at these departure rows.
+fn add_rows(feed: &Feed, rows: &[DepartureRow], found: &mut Found) -> Result<(), OutOfMemory>
+    requires { All (IsInside feed.now) rows.now }
+    ensures { OnOk result (AreAdded feed.now rows.now
+        found.old.listed.items found.new.listed.items
+        (map period_value found.old.periods.items) (map period_value found.new.periods.items)) }
 {
-    feed.soundness();
-    let passings = passings(alloc, feed, place, trip, times)?;
-    let indexed = IndexedTrip::of(feed, trip)?;
-    add_passings(feed, trip, indexed, &passings, listed, periods)
-}
-
-// Adds what leaves a place of one trip, by its stop times there.
-pub(crate) fn add_passings(
-    feed: &Feed,
-    trip: TripNo,
-    indexed: IndexedTrip,
-    passings: &[Passing],
-    listed: &mut Vec<Listed>,
-    periods: &mut Vec<StepLane>,
-) -> Result<(), OutOfMemory>
-    requires trip { trip.0 < length feed.now.trips }
-    requires service { indexed.service ≡ (trip_group feed.now trip.0).0 }
-    requires start { indexed.start
-        ≡ first_left (slice_index_or (stop_rows_by_trip feed.now) trip.0 []) }
-    requires marked { (fs : List FrequencyValue)
-        → slice_get (frequencies_by_trip feed.now) trip.0 ≡ Some fs
-        → indexed.has_frequencies ≡ not (length fs == 0) }
-    requires after { All (λ x. x.after ≤ 3_599_999) passings.now }
-    ensures found { OnOk result ((times : Choice) (s : ℕ)
-        → ArePassings (timed_parts times feed.now) s trip.0 passings.now
-        → AreFound (timed_parts times feed.now) s trip.0 (map (stopping_of feed.now) listed.old.items)
-        (map period_value periods.old.items)
-        → AreFound (timed_parts times feed.now) s (trip.0 + 1) (map (stopping_of feed.now) listed.new.items)
-        (map period_value periods.new.items)) }
-    ensures groups { OnOk result ((groups : ℕ → ℕ) → groups trip.0 ≡ indexed.group
-        → All (λ x. groups x.trip ≡ x.group) listed.old.items
-        → All (λ x. groups x.trip ≡ x.group) listed.new.items) }
-    ensures services { OnOk result (AreServed feed.now listed.old.items
-        → AreServed feed.now listed.new.items) }
-{
-    feed.soundness();
-    if !indexed.has_frequencies {
-        return add_listed(trip, indexed, passings, listed);
+    for row in rows {
+        add_row(feed, IndexedTrip::of(feed, row.trip())?, row, found)?;
     }
-    let service = ServiceNo(indexed.service as usize);
-    let frequencies = feed.trip_frequencies(trip);
-    add_periods(service, trip, frequencies, passings, periods)?;
     Ok(())
 }
 
-// Adds the events of a trip without frequencies.
-fn add_listed(
-    trip: TripNo,
+// Adds what leaves at a departure row of this trip: one event, or a lane for each row of
+// `frequencies.txt`.
+pub(crate) fn add_row(
+    feed: &Feed,
     indexed: IndexedTrip,
-    passings: &[Passing],
-    listed: &mut Vec<Listed>,
+    row: &DepartureRow,
+    found: &mut Found,
 ) -> Result<(), OutOfMemory>
-    requires after { All (λ x. x.after ≤ 3_599_999) passings.now }
-    requires start { indexed.start ≤ 7_199_999 }
-    ensures events { OnOk result ((p : Parts) → map (stopping_of p) listed.new.items
-        ≡ map (stopping_of p) listed.old.items ++ map (stopping_at (trip_group p trip.0).1
-        (trip_group p trip.0).0 trip.0 indexed.start) passings.now) }
-    ensures groups { OnOk result ((groups : ℕ → ℕ) → groups trip.0 ≡ indexed.group
-        → All (λ x. groups x.trip ≡ x.group) listed.old.items
-        → All (λ x. groups x.trip ≡ x.group) listed.new.items) }
-    ensures services { OnOk result ((p : Parts) → (trip_group p trip.0).0 ≡ indexed.service
-        → AreServed p listed.old.items → AreServed p listed.new.items) }
+    requires row { IsInside feed.now row.now }
+    requires service { indexed.service ≡ (trip_group feed.now row.now.trip).0 }
+    requires start { indexed.start
+        ≡ first_left (slice_index_or (stop_rows_by_trip feed.now) row.now.trip []) }
+    requires marked { (fs : List FrequencyValue)
+        → slice_get (frequencies_by_trip feed.now) row.now.trip ≡ Some fs
+        → indexed.has_frequencies ≡ not (length fs == 0) }
+    ensures added { OnOk result (AreAdded feed.now (row.now ∷ [])
+        found.old.listed.items found.new.listed.items
+        (map period_value found.old.periods.items) (map period_value found.new.periods.items)) }
+    ensures groups { OnOk result ((groups : ℕ → ℕ) → groups row.now.trip ≡ indexed.group
+        → All (λ x. groups x.trip ≡ x.group) found.old.listed.items
+        → All (λ x. groups x.trip ≡ x.group) found.new.listed.items) }
 {
-    for passing in passings {
-        listed.push(Listed::of(trip, indexed, passing)?)?;
+    feed.soundness();
+    let trip = row.trip();
+    let passing = Passing::of(row, indexed.start);
+    if !indexed.has_frequencies {
+        found.listed.push(Listed::of(trip, indexed, &passing)?)?;
+        return Ok(());
     }
+    let service = ServiceNo(indexed.service as usize);
+    add_periods(service, trip, feed.trip_frequencies(trip), &[passing], &mut found.periods)?;
     Ok(())
 }
 
 // Adds the lanes of the frequencies of a trip.
-pub(crate) fn add_periods(
+fn add_periods(
     service: ServiceNo,
     trip: TripNo,
     frequencies: &[Frequency],

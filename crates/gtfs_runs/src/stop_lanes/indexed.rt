@@ -1,4 +1,4 @@
-ghost use Rattle.std.specs.Prelude.{◌≡◌, ◌≤◌, ◌<◌, ◌∷◌, [], All, IfOk, OnOk, length, map, slice_index_or};
+ghost use Rattle.std.specs.Prelude.{◌≡◌, ◌<◌, All, IfOk, OnOk, length, map, slice_index_or};
 ghost use Rattle.std.specs.List.{flat_map};
 ghost use Rattle.gtfs_runs.specs.StopLanes.{period_value};
 ghost use Rattle.gtfs_runs.specs.declared.stop_index.indexed_trips.IndexedTrip.{IndexedTrip as TripValue};
@@ -6,18 +6,15 @@ ghost use Rattle.gtfs_runs.specs.steps.AtStops.{at_stop};
 ghost use Rattle.gtfs_runs.specs.steps.Courses.{AreServed, stopping_of};
 ghost use Rattle.gtfs_runs.specs.steps.Finds.{AreFound};
 ghost use Rattle.gtfs_runs.specs.steps.Groups.{AreIndexedTrips};
-ghost use Rattle.gtfs_runs.specs.steps.Noted.{noted_passing};
 ghost use Rattle.gtfs_runs.specs.steps.Numbers.{AreNumbered};
 ghost use Rattle.gtfs_runs.specs.steps.RowFinds.{AreAdded, IsInside};
 ghost use Rattle.gtfs_times.specs.TimedRows.{timed_parts};
 
 use crate::stop_index::{Child, DepartureRow, IndexedTrip, StopIndex, trip_at};
-use crate::stop_lanes::found::{Found, add_periods};
-use crate::stop_lanes::listed::Listed;
-use crate::stop_lanes::passing::Passing;
+use crate::stop_lanes::found::{Found, add_row};
 use gtfs_feed::Feed;
 use gtfs_field::OutOfMemory;
-use gtfs_rows::{ServiceNo, StopNo};
+use gtfs_rows::StopNo;
 use std::alloc::Global;
 
 // What leaves the place of a stop, of the departure rows that an index has there.
@@ -91,54 +88,9 @@ fn add_rows(
         → All (λ x. (slice_index_or trips.now x.trip e).group ≡ x.group) found.old.listed.items
         → All (λ x. (slice_index_or trips.now x.trip e).group ≡ x.group) found.new.listed.items) }
 {
-    for row in rows {
-        add_row(feed, trips, row, found)?;
-    }
-    Ok(())
-}
-
-// Adds what leaves at a departure row: one event, or a lane for each row of `frequencies.txt`.
-fn add_row(
-    feed: &Feed,
-    trips: &[IndexedTrip],
-    row: &DepartureRow,
-    found: &mut Found,
-) -> Result<(), OutOfMemory>
-    requires trips { AreIndexedTrips feed.now trips.now }
-    requires row { IsInside feed.now row.now }
-    ensures added { OnOk result (AreAdded feed.now (row.now ∷ [])
-        found.old.listed.items found.new.listed.items
-        (map period_value found.old.periods.items) (map period_value found.new.periods.items)) }
-    ensures groups { OnOk result ((e : TripValue)
-        → All (λ x. (slice_index_or trips.now x.trip e).group ≡ x.group) found.old.listed.items
-        → All (λ x. (slice_index_or trips.now x.trip e).group ≡ x.group) found.new.listed.items) }
-{
     feed.soundness();
-    let trip = row.trip();
-    let indexed = trip_at(trips, trip);
-    let passing = passing(row, indexed.start);
-    if !indexed.has_frequencies {
-        found.listed.push(Listed::of(trip, indexed, &passing)?)?;
-        return Ok(());
+    for row in rows {
+        add_row(feed, trip_at(trips, row.trip()), row, found)?;
     }
-    let service = ServiceNo(indexed.service as usize);
-    add_periods(
-        service,
-        trip,
-        feed.trip_frequencies(trip),
-        &[passing],
-        &mut found.periods,
-    )?;
     Ok(())
-}
-
-// The passing at a departure row of a trip that starts at this second. No vehicle leaves before.
-fn passing(row: &DepartureRow, start: u32) -> Passing
-    ensures { result ≡ noted_passing start row.now }
-{
-    Passing {
-        after: row.left().saturating_sub(start),
-        seq: row.sequence(),
-        row: row.row(),
-    }
 }

@@ -7,21 +7,18 @@ use Rattle.gtfs_table.proofs.PartFacts.{length-parts}
 use Rattle.gtfs_runs.specs.StopLanes.{period_value}
 use Rattle.gtfs_runs.specs.steps.Finds.{times_passed_in, times_told}
 use Rattle.gtfs_runs.specs.steps.Noted.{noted_passing}
-use Rattle.gtfs_runs.specs.steps.Passings.{first_left, passing_event}
+use Rattle.gtfs_runs.specs.steps.Passings.{passing_event}
 use Rattle.gtfs_runs.specs.steps.RowFinds.{row_passing, row_periods}
-use Rattle.gtfs_runs.proofs.GroupFacts.{marked_at, no_trip, served_at, starts_at}
 use Rattle.gtfs_runs.proofs.RowSteps.{event_added, periods_added}
 use Rattle.gtfs_runs.proofs.TripTimes.{periods_run, rows_at, starts_within}
-use Rattle.gtfs_runs.proofs.stop_lanes.indexed.add_row.Goals as goal
+use Rattle.gtfs_runs.proofs.stop_lanes.found.add_row.Goals as goal
 
 pub of-requires-clause-start : goal.of-requires-clause-start
 of-requires-clause-start c =
     let p = c.args.feed.now in
     let t = c.args.row.now.trip in
-    let trip : c.trip-trip.result.0 ≡ t = c.trip-trip.ensures in
     let bound = starts_within p c.soundness.ensures t (get_or (stop_rows_by_trip p) t []) (rows_at p c.soundness.ensures t c.requires.row.0) in
-    let start = ap (λ z. z.start) (c.trip_at-indexed.ensures no_trip ∙ ap (λ n. get_or c.args.trips.now n no_trip) trip) ∙ starts_at p c.soundness.ensures c.args.trips.now c.requires.trips.starts t no_trip c.requires.row.0 in
-    omega (arith, start, bound)
+    omega (arith, c.requires.start, bound)
 
 pub add_periods-requires-clause-runs : goal.add_periods-requires-clause-runs
 add_periods-requires-clause-runs c = periods_run c.args.feed.now c.soundness.ensures c.trip-trip.result.0 c.trip_frequencies.result.now c.trip_frequencies.ensures
@@ -31,19 +28,13 @@ returns-then-not-indexed-clause-added c =
     let p = c.args.feed.now in
     let row = c.args.row.now in
     let t = row.trip in
-    let trips = c.args.trips.now in
-    let inside = c.requires.row.0 in
-    let trip : c.trip-trip.result.0 ≡ t = c.trip-trip.ensures in
-    let is : c.trip_at-indexed.result ≡ get_or trips t no_trip = c.trip_at-indexed.ensures no_trip ∙ ap (λ n. get_or trips n no_trip) trip in
-    let start : c.trip_at-indexed.result.start ≡ first_left (get_or (stop_rows_by_trip p) t []) = ap (λ z. z.start) is ∙ starts_at p c.soundness.ensures trips c.requires.trips.starts t no_trip inside in
-    let passing : c.passing-passing.result ≡ row_passing p row = c.passing-passing.ensures ∙ ap (λ n. noted_passing n row) start in
-    let here : t < length (frequencies_by_trip p) = omega (arith, inside, length-parts p.frequency_starts p.frequencies, c.soundness.ensures.frequencies.0) in
+    let passing : c.of-passing.result ≡ row_passing p row = c.of-passing.ensures ∙ ap (λ n. noted_passing n row) c.requires.start in
+    let here : t < length (frequencies_by_trip p) = omega (arith, c.requires.row.0, length-parts p.frequency_starts p.frequencies, c.soundness.ensures.frequencies.0) in
     let at : slice_get (frequencies_by_trip p) t ≡ Some (row_periods p row) = slice_get-get_or (frequencies_by_trip p) t [] here in
-    let marked = ap (λ z. z.has_frequencies) is ∙ marked_at p c.soundness.ensures trips c.requires.trips t no_trip inside (row_periods p row) at in
     event_added p row c.in_ok-of.field-0 c.args.found.now.listed.items c.push.new.self.items (map period_value c.args.found.now.periods.items)
-    (is_none (length (row_periods p row) == 0) (sym marked ∙ c.if-not-indexed.true))
-    (c.in_ok-of.ensures.event ∙ (λ i. passing_event (trip i) (start i) (passing i)))
-    (c.in_ok-of.ensures.service ∙ ap (λ z. z.service) is ∙ served_at p trips c.requires.trips.serving t no_trip inside)
+    (is_none (length (row_periods p row) == 0) (sym (c.requires.marked (row_periods p row) at) ∙ c.if-not-indexed.true))
+    (c.in_ok-of.ensures.event ∙ (λ i. passing_event (c.trip-trip.ensures i) (c.requires.start i) (passing i)))
+    (c.in_ok-of.ensures.service ∙ c.requires.service)
     c.in_ok-push.ensures.items
   where
     is_none : (b : Bool) → not b ≡ false → b ≡ true
@@ -55,22 +46,17 @@ returns-clause-added c =
     let p = c.args.feed.now in
     let row = c.args.row.now in
     let t = row.trip in
-    let trips = c.args.trips.now in
-    let inside = c.requires.row.0 in
     let trip : c.trip-trip.result.0 ≡ t = c.trip-trip.ensures in
-    let is : c.trip_at-indexed.result ≡ get_or trips t no_trip = c.trip_at-indexed.ensures no_trip ∙ ap (λ n. get_or trips n no_trip) trip in
-    let start : c.trip_at-indexed.result.start ≡ first_left (get_or (stop_rows_by_trip p) t []) = ap (λ z. z.start) is ∙ starts_at p c.soundness.ensures trips c.requires.trips.starts t no_trip inside in
-    let passing : c.passing-passing.result ≡ row_passing p row = c.passing-passing.ensures ∙ ap (λ n. noted_passing n row) start in
+    let passing : c.of-passing.result ≡ row_passing p row = c.of-passing.ensures ∙ ap (λ n. noted_passing n row) c.requires.start in
     let fs = c.trip_frequencies.result.now in
     let at : slice_get (frequencies_by_trip p) t ≡ Some fs = subst (λ n. slice_get (frequencies_by_trip p) n ≡ Some fs) trip c.trip_frequencies.ensures in
-    let marked = ap (λ z. z.has_frequencies) is ∙ marked_at p c.soundness.ensures trips c.requires.trips t no_trip inside fs at in
-    let service = c.trip_at-indexed.result.service in
+    let service = c.args.indexed.service in
     let before = c.args.found.now.periods.items in
     let after = c.add_periods.new.periods.items in
     let told = c.in_ok-add_periods.ensures in
-    periods_added p c.soundness.ensures row service fs c.args.found.now.listed.items (map period_value before) (map period_value after) inside
-    (ap (λ z. z.service) is ∙ served_at p trips c.requires.trips.serving t no_trip inside) at
-    (is_some (length fs == 0) (sym marked ∙ c.if-not-indexed.false))
+    periods_added p c.soundness.ensures row service fs c.args.found.now.listed.items (map period_value before) (map period_value after) c.requires.row.0
+    c.requires.service at
+    (is_some (length fs == 0) (sym (c.requires.marked fs at) ∙ c.if-not-indexed.false))
     (λ k e. told.told k e ∙ (λ i. times_told k e (map period_value before) + cond (service == k) (times_passed_in (trip i) e (passing i ∷ []) fs) 0))
     (length-map after period_value ∙ told.counted ∙ ap (λ n. n + length fs * 1) (sym (length-map before period_value)))
     told.within

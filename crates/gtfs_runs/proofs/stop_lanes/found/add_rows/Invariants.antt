@@ -1,0 +1,9 @@
+use Rattle.std.proofs.Common.{map, take}
+use Rattle.gtfs_runs.specs.StopLanes.{period_value}
+use Rattle.gtfs_runs.specs.steps.RowFinds.{AreAdded}
+use Rattle.gtfs_runs.proofs.stop_lanes.found.add_rows.Given as goal
+
+-- what the rows so far add
+abbrev pub invariant-loop-row : goal.invariant-loop-row
+invariant-loop-row l =
+    AreAdded l.feed (take l.row-index l.rows) l.fn.found.listed.items l.found.listed.items (map period_value l.fn.found.periods.items) (map period_value l.found.periods.items)
