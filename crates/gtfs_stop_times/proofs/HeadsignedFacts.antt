@@ -1,5 +1,5 @@
 -- Stop times that are given their headsigns.
-use Rattle.std.proofs.Common.{◌≡◌, ◌<◌, ◌≤◌, ◌+◌, ◌-◌, ◌++◌, ◌∷◌, ◌∙◌, [], ℕ, List, drop, length, map, take, get_or, Option, None, Some, refl, sym, ap, subst, arith, inl, inr}
+use Rattle.std.proofs.Common.{◌≡◌, ◌<◌, ◌≤◌, ◌+◌, ◌++◌, ◌∷◌, ◌∙◌, [], ℕ, List, drop, length, map, take, get_or, Option, None, Some, refl, sym, ap, subst, arith, inl, inr}
 use Rattle.std.specs.Prelude.{nat_eq, slice_get, slice_set as set}
 use Rattle.std.specs.List.{All, IsDistinct}
 use Rattle.std.proofs.lemmas.Bool.{cases_lt, eqb-false}
@@ -13,7 +13,6 @@ use Rattle.gtfs_table.specs.Parts.{parts}
 use Rattle.gtfs_stop_times.specs.Headsigned.{AreGiven, Headsigned, headsigned_at, numbers_in, rows_at, with_headsign, with_headsign_at}
 use Rattle.gtfs_stop_times.specs.KeptLists.{AreListed, HasNoHeadsign, no_note, no_row, noted_row, stop_time_at, stop_times_at}
 use Rattle.gtfs_stop_times.specs.declared.row_note.RowNote.{RowNote}
-use Rattle.gtfs_stop_times.specs.declared.stop_time.StopTime.{StopTime}
 use Rattle.gtfs_stop_times.proofs.ByTripFacts.{ranges-rows, ranges-starts}
 use Rattle.gtfs_stop_times.proofs.KeptListFacts.{map_alike}
 

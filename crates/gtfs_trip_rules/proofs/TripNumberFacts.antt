@@ -12,7 +12,7 @@ use Rattle.std.proofs.Math.ListN.{get_or-append}
 use Rattle.std.proofs.Math.Seq.{get_or-append_seam}
 use Rattle.std.proofs.lemmas.List.{append_assoc, length-map, map-append}
 use Rattle.std.proofs.lemmas.List.Quantifiers.{position-Some}
-use Rattle.std.proofs.lemmas.List.Elements.{All-filter, All-push, All-tail}
+use Rattle.std.proofs.lemmas.List.Elements.{All-filter, All-push}
 use Rattle.gtfs_stop_times.specs.declared.stop_time.StopTime.{StopTime}
 use Rattle.gtfs_trip_rules.specs.TripNotes.{note_of}
 use Rattle.gtfs_trip_rules.specs.TripNumbers.{AllNumbered, AreNamed, AreNumbered, HaveNumbers, IsNumbered, Keeps, name_at, number_of_trip, other_number}

@@ -1,6 +1,6 @@
 -- The rows of stop_times.txt that name a trip, as records.
-use Rattle.std.specs.Prelude.{◌≡◌, ◌<◌, ℕ, ◌&&◌, ◌∷◌, ◌++◌, Bool, List, [], length, map, filter, bytes_eq, Option, Some, None, if◌then◌else◌, is_some, option_map, ℤ}
-use Rattle.std.specs.List.{All, filter_map}
+use Rattle.std.specs.Prelude.{◌≡◌, ℕ, ◌&&◌, ◌∷◌, ◌++◌, Bool, List, [], length, map, filter, bytes_eq, Option, Some, None, if◌then◌else◌, is_some, option_map, ℤ}
+use Rattle.std.specs.List.{filter_map}
 use Rattle.std.specs.Option.{unwrap_or}
 use Rattle.gtfs_table.specs.Tables.{Dataset}
 use Rattle.gtfs_table.specs.declared.file.File.TheVariants as file

@@ -1,4 +1,4 @@
-use Rattle.std.proofs.Common.{◌≡◌, ◌∙◌, ◌+◌, ◌-◌, ◌++◌, ap, arith, length, subst, sym, take}
+use Rattle.std.proofs.Common.{◌≡◌, ◌∙◌, ◌-◌, ◌++◌, ap, arith, length, subst, sym, take}
 use Rattle.std.specs.Prelude.{replicate}
 use Rattle.gtfs_reading.specs.Gathering.{starts_of_all, IsEmptyFor}
 use Rattle.gtfs_reading.specs.StopTimeDraft.{lists_with, AreCut}

@@ -1,4 +1,4 @@
-use Rattle.std.proofs.Common.{◌≡◌, ◌<◌, ◌+◌, ◌∙◌, ◌++◌, ap, arith, drop, get_or, length, map, subst, sym, take}
+use Rattle.std.proofs.Common.{◌<◌, ◌+◌, ◌∙◌, ◌++◌, ap, arith, drop, length, map, subst, sym, take}
 use Rattle.std.proofs.lemmas.Option.{get_or_from_slice_get}
 use Rattle.gtfs_stop_times.specs.Headsigned.{AreGiven, Headsigned, rows_at, with_headsign_at}
 use Rattle.gtfs_stop_times.specs.KeptLists.{stop_times_at}
