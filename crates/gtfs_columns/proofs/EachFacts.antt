@@ -1,9 +1,8 @@
 -- What is reported of each element of a list, one after the other.
-use Rattle.std.proofs.Common.{◌≡◌, ◌+◌, ◌<◌, ◌≤◌, ℕ, zero, suc, [], ◌∷◌, List, length, get_or, take, true, false, Bool, cond, refl, sym, ap, ◌∙◌, add_comm, zero-add, arith}
-use Rattle.std.specs.Prelude.{◌&&◌, ◌||◌, ◌==◌, filter, not}
+use Rattle.std.proofs.Common.{◌≡◌, ◌+◌, ◌<◌, ◌≤◌, ℕ, zero, suc, [], ◌∷◌, List, length, get_or, take, true, false, Bool, refl, sym, ap, ◌∙◌, add_comm, zero-add, arith}
+use Rattle.std.specs.Prelude.{◌&&◌, ◌||◌}
 use Rattle.std.specs.List.{list_any, range_with_len}
 use Rattle.std.proofs.lemmas.List.{take_all}
-use Rattle.std.proofs.lemmas.Bool.Decides.{nat_tests}
 use Rattle.std.proofs.lemmas.List.Folds.{list_any_at, list_any_more}
 use Rattle.std.proofs.lemmas.List.FromFn.{get_or-range_with_len, length-range_with_len}
 use Rattle.std.proofs.Math.Bool.{and-false}
@@ -60,15 +59,6 @@ module _ {X : Type 0} (d : Dataset) (picks : X → Problem → Bool) (xs : List 
   each_done n old new past reported = rw (take_all n xs past) at reported
 
 -- ---- elements that pass
-
-any_left_at : {X : Type 0} (t : X → Bool) (x : X) (xs : List X) (b : Bool) → t x ≡ b → list_any t xs ≡ not (length (filter t xs) == 0)
-    → (b || list_any t xs) ≡ not (length (cond b (x ∷ filter t xs) (filter t xs)) == 0)
-any_left_at t x xs true e rest = let filled : (length (x ∷ filter t xs) == 0) ≡ false = grind (arith, nat_tests) in rw filled refl
-any_left_at t x xs false e rest = rest
-
-pub any_left : {X : Type 0} (t : X → Bool) (xs : List X) → list_any t xs ≡ not (length (filter t xs) == 0)
-any_left t [] = refl
-any_left t (x ∷ xs) = any_left_at t x xs (t x) refl (any_left t xs)
 
 pub any_in_range : (t : ℕ → Bool) (a n m : ℕ) → m < n → t (m + a) ≡ true → list_any t (range_with_len a n) ≡ true
 any_in_range t a n m below here =

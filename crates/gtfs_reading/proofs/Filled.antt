@@ -4,10 +4,6 @@ use Rattle.std.specs.Prelude.{Result, Ok, Err}
 use Rattle.std.specs.Result.{result_and}
 use Rattle.std.proofs.lemmas.Result.{on_ok_weaker}
 
--- what follows from what a call promised
-pub then_on_ok : {T E P Q : Type 0} (call : Result T E) → OnOk call P → (P → Q) → OnOk call Q
-then_on_ok call h f = on_ok_weaker call f h
-
 -- a value that a call filled
 of_call : {X T E : Type 0} (P : X → Type 0) (x : X) (call : Result T E) → OnOk call (P x) → IfOk (result_and call (Ok x)) P
 of_call P x (Ok u) h = h

@@ -13,7 +13,6 @@ pub mod Runs
 pub mod RowEvents
 mod RowFinds
 mod RowSteps
-mod RowsSoFar
 pub mod RunStarts
 mod LaneTallies
 mod TripFinds

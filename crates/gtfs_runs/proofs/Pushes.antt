@@ -11,12 +11,6 @@ pushed-more f xs n x old new y within item so_far pushed is =
     rw (add-one, take-suc xs n x within, map-append f (take n xs) (get_or xs n x ∷ []))
     (pushed ∙ (λ i. so_far i ++ (is ∙ ap f item) i ∷ []))
 
-pub pushed-after : {X Y : Type 0} (f : X → Y) (xs : List X) (n : ℕ) (x : X) (old before after : List Y) (y : Y) → n < length xs → x ≡ get_or xs n x
-    → before ≡ old ++ map f (take n xs) → after ≡ before ++ y ∷ [] → y ≡ f x → after ≡ old ++ map f (take (n + 1) xs)
-pushed-after f xs n x old before after y within item so_far pushed is =
-    rw (add-one, take-suc xs n x within, map-append f (take n xs) (get_or xs n x ∷ []))
-    (pushed ∙ (λ i. so_far i ++ (is ∙ ap f item) i ∷ []) ∙ append-assoc old (map f (take n xs)) (f (get_or xs n x) ∷ []))
-
 pub mapped-all : {X Z : Type 0} (f : X → Z) (xs : List X) (n : ℕ) (zs : List Z) → length xs ≤ n → zs ≡ map f (take n xs) → zs ≡ map f xs
 mapped-all f xs n zs past so_far = so_far ∙ ap (map f) (take_all n xs past)
 

@@ -1,10 +1,9 @@
 -- When a vehicle leaves the stop times of a trip of sound parts: not before the trip starts, and not after 999:59:59.
-use Rattle.std.proofs.Common.{◌≡◌, ◌≤◌, ◌<◌, ◌+◌, ◌++◌, ◌∙◌, ℕ, zero, suc, Bool, true, false, List, [], ◌∷◌, length, map, filter, take, get_or, Option, Some, None, refl, sym, ap, arith, ◌==◌}
+use Rattle.std.proofs.Common.{◌≡◌, ◌≤◌, ◌<◌, ◌+◌, ◌++◌, ◌∙◌, ℕ, zero, suc, true, List, [], ◌∷◌, length, get_or, Option, Some, None, refl, arith, ◌==◌}
 use Rattle.std.specs.Prelude.{IfSome, is_some, unwrap_or}
-use Rattle.std.specs.List.{All, enumerate_from, slice_get}
+use Rattle.std.specs.List.{All, slice_get}
 use Rattle.std.specs.Option.{option_or}
 use Rattle.std.proofs.lemmas.Bool.{eqb-true, false≢true}
-use Rattle.std.proofs.lemmas.List.{map-append}
 use Rattle.std.proofs.lemmas.Option.{slice_get_within, slice_get-get_or}
 use Rattle.gtfs_field.proofs.ListFacts.{some_of}
 use Rattle.gtfs_table.proofs.PartFacts.{length-parts}
@@ -17,7 +16,6 @@ use Rattle.gtfs_rows.proofs.TripFacts.{periods}
 use Rattle.gtfs_runs.specs.steps.Finds.{HasRuns}
 use Rattle.gtfs_runs.specs.steps.Passings.{first_left}
 use Rattle.gtfs_runs.proofs.Bounds.{periods_within, rows_within}
-use Rattle.gtfs_runs.proofs.RowsSoFar.{row_passes, row_fails}
 
 -- of a time that is there: it lies at or after one at or before which the stop time is reached
 pub chain : (first arrival departure : Option ℕ) → is_some first ≡ true → IfSome first (λ a. IfSome (option_or arrival departure) (λ b. a ≤ b))
@@ -68,19 +66,3 @@ periods_run p sound t fs at_periods k d within =
 pub none_left : {X : Type 0} (xs : List X) → (length xs == 0) ≡ true → xs ≡ []
 none_left [] none = refl
 none_left (x ∷ xs) none = absurd (omega (arith, eqb-true (length (x ∷ xs)) 0 none))
-
-pub some_left : {X : Type 0} (xs : List X) → (length xs == 0) ≡ false → 0 < length xs
-some_left [] some = cc
-some_left (x ∷ xs) some = omega arith
-
--- ---- the steps of the code: what is made of the rows that pass
-
-pub picked_passes : {X Y : Type 0} (g : ℕ × X → Y) (q : ℕ × X → Bool) (xs : List X) (n : ℕ) (d : X) (old new : List Y) (b : Bool) (y : Y) → n < length xs → b ≡ q (n, get_or xs n d) → b ≡ true
-    → y ≡ g (n, get_or xs n d) → old ≡ map g (filter q (enumerate_from 0 (take n xs))) → new ≡ old ++ y ∷ [] → new ≡ map g (filter q (enumerate_from 0 (take (n + 1) xs)))
-picked_passes g q xs n d old new b y within is holds made so_far pushed =
-    pushed ∙ (λ i. so_far i ++ made i ∷ []) ∙ sym (map-append g (filter q (enumerate_from 0 (take n xs))) ((n, get_or xs n d) ∷ []))
-    ∙ ap (map g) (sym (row_passes q xs n d within (sym is ∙ holds)))
-
-pub picked_fails : {X Y : Type 0} (g : ℕ × X → Y) (q : ℕ × X → Bool) (xs : List X) (n : ℕ) (d : X) (old new : List Y) (b : Bool) → n < length xs → b ≡ q (n, get_or xs n d) → b ≡ false
-    → old ≡ map g (filter q (enumerate_from 0 (take n xs))) → new ≡ old → new ≡ map g (filter q (enumerate_from 0 (take (n + 1) xs)))
-picked_fails g q xs n d old new b within is fails so_far kept = kept ∙ so_far ∙ ap (map g) (sym (row_fails q xs n d within (sym is ∙ fails)))

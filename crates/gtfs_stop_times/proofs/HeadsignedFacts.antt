@@ -1,9 +1,9 @@
 -- Stop times that are given their headsigns.
 use Rattle.std.proofs.Common.{◌≡◌, ◌<◌, ◌≤◌, ◌+◌, ◌++◌, ◌∷◌, ◌∙◌, [], ℕ, List, drop, length, map, take, get_or, Option, None, Some, refl, sym, ap, subst, arith, inl, inr}
 use Rattle.std.specs.Prelude.{nat_eq, slice_get, slice_set as set}
-use Rattle.std.specs.List.{All, IsDistinct}
+use Rattle.std.specs.List.{All}
 use Rattle.std.proofs.lemmas.Bool.{cases_lt, eqb-false}
-use Rattle.std.proofs.lemmas.List.{drop_more, get_or-drop, get_or-set_other, get_or-set_same, get_or-take, get_or_default, get_or_past, length-drop, length-map, length-set, length-take-le, map_more, nil_from_length, take_all}
+use Rattle.std.proofs.lemmas.List.{drop_more, get_or-drop, get_or-set_other, get_or-set_same, get_or-take, get_or_default, length-drop, length-map, length-set, length-take-le, map_more, nil_from_length, take_all}
 use Rattle.std.proofs.lemmas.Map.Keys.{apart_from_distinct}
 use Rattle.csv.specs.Records.{Rising}
 use Rattle.gtfs_stop_times.specs.ByTrip.{AreWithin, in_turn, rows_in}
@@ -11,7 +11,7 @@ use Rattle.gtfs_stop_times.specs.declared.by_trip.RowRange.{RowRange}
 use Rattle.gtfs_stop_times.specs.declared.stop_row.StopRow.{StopRow}
 use Rattle.gtfs_table.specs.Parts.{parts}
 use Rattle.gtfs_stop_times.specs.Headsigned.{AreGiven, Headsigned, headsigned_at, numbers_in, rows_at, with_headsign, with_headsign_at}
-use Rattle.gtfs_stop_times.specs.KeptLists.{AreListed, HasNoHeadsign, no_note, no_row, noted_row, stop_time_at, stop_times_at}
+use Rattle.gtfs_stop_times.specs.KeptLists.{no_note, no_row, noted_row, stop_time_at, stop_times_at}
 use Rattle.gtfs_stop_times.specs.declared.row_note.RowNote.{RowNote}
 use Rattle.gtfs_stop_times.proofs.ByTripFacts.{ranges-rows, ranges-starts}
 use Rattle.gtfs_stop_times.proofs.KeptListFacts.{map_alike}
@@ -21,24 +21,6 @@ use Rattle.gtfs_stop_times.proofs.KeptListFacts.{map_alike}
 pub own-numbers : (rows : List StopRow) (notes : List RowNote) (order : List ℕ) → map (λ s. s.row) (stop_times_at rows notes order) ≡ order
 own-numbers rows notes [] = refl
 own-numbers rows notes (n ∷ ns) = ap (λ ms. n ∷ ms) (own-numbers rows notes ns)
-
--- the row of a number, or what stands in its place, has no headsign
-none-at : (rows : List StopRow) → All HasNoHeadsign rows → (n : ℕ) → (get_or rows n no_row).stop_headsign ≡ None
-none-at rows none n = elim (cases_lt n (length rows)) [
-  | inl within ↦ none n no_row within
-  | inr past ↦ ap (λ (r : StopRow). r.stop_headsign) (get_or_past rows n no_row past)
-]
-
-pub none-given : (rows : List StopRow) (notes : List RowNote) (order : List ℕ) (len : ℕ) → AreListed rows notes order → IsDistinct nat_eq order → len ≡ length order
-    → AreGiven rows notes order len 0
-none-given rows notes order len listed once count = record {
-  all = sym count;
-  few = omega arith;
-  in_rows = listed.in_rows;
-  in_notes = listed.in_notes;
-  once = once;
-  none_left = λ k low high. none-at rows listed.unnamed (get_or order k 0);
-}
 
 -- ---- one more
 

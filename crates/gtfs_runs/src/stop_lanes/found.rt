@@ -106,7 +106,13 @@ pub(crate) fn add_row(
         return Ok(());
     }
     let service = ServiceNo(indexed.service as usize);
-    add_periods(service, trip, feed.trip_frequencies(trip), &[passing], &mut found.periods)?;
+    add_periods(
+        service,
+        trip,
+        feed.trip_frequencies(trip),
+        &[passing],
+        &mut found.periods,
+    )?;
     Ok(())
 }
 
