@@ -17,11 +17,11 @@
 //! order from then on; no row is looked for in a list from its beginning.
 //!
 //! Each file has a module: `agencies`, `stops`, `routes`, `trips`, `transfers`, `frequencies`, and
-//! `calendar` and `dates`, of which `services` are made. `columns` finds the columns of a file once,
-//! in the order of its schema, and a row is read by their places there. The ids of
-//! files are [`NetworkIds`](gtfs_columns::NetworkIds), and `service_ids` has those of services,
-//! which come of two files. `texts`, `numbers`, `choices` and `references` read a field. `gathered`
-//! has the lists of stop times while they are made, and `headsigns` the headsigns by number.
+//! `calendar` and `dates`, of which `services` are made. `columns` finds the columns of a file
+//! once, in the order of its schema, and a row is read by their places there. The ids of files are
+//! [`NetworkIds`](gtfs_columns::NetworkIds), and `service_ids` has those of services, which come
+//! of two files. `texts`, `numbers`, `choices` and `references` read a field. `gathered` has the
+//! lists of stop times while they are made, and `headsigns` the headsigns by number.
 //!
 //! What the rows are is said in `gtfs_rows`: `specs/Reading.antt` there has the content of a
 //! dataset. `specs/FeedRows.antt` here says that the lists are that content,
