@@ -31,6 +31,28 @@ const CASES: &[Case] = &[
         filled: "S1 T2 0\nS1 T5 0\nS1 T7 0\nS1 T9 0\nS1 T4 0\nS1 T1 0\nS10 T8 0\nS2 T1 1\nS2 T3 0\n",
     },
     Case {
+        what: "trips by their services, and then by their starts",
+        files: &[
+            (
+                "calendar.txt",
+                "service_id,monday,tuesday,wednesday,thursday,friday,saturday,sunday,start_date,end_date\n\
+C2,1,1,1,1,1,1,1,20240401,20240401\nC1,1,1,1,1,1,1,1,20240401,20240401\n",
+            ),
+            (
+                "trips.txt",
+                "route_id,service_id,trip_id\nR1,C2,T1\nR1,C1,T2\nR1,C1,T3\n",
+            ),
+            (
+                "stop_times.txt",
+                "trip_id,arrival_time,departure_time,stop_id,stop_sequence\n\
+T1,07:00:00,07:00:00,S1,1\nT1,07:10:00,07:10:00,S2,2\nT2,09:00:00,09:00:00,S1,1\nT2,09:10:00,09:10:00,S2,2\n\
+T3,08:00:00,08:00:00,S1,1\nT3,08:10:00,08:10:00,S2,2\n",
+            ),
+        ],
+        given: "S1 T3 0\nS1 T2 0\nS1 T1 0\n",
+        filled: "S1 T3 0\nS1 T2 0\nS1 T1 0\n",
+    },
+    Case {
         what: "a stop time without a time departs where times are filled",
         files: &[
             (
