@@ -3,7 +3,7 @@ use Rattle.std.proofs.Common.{◌≡◌, ◌<◌, ◌≤◌, ◌+◌, ◌++◌, 
 use Rattle.std.specs.Prelude.{OnOk, IfOk}
 use Rattle.std.specs.Result.{IsErrAnd}
 use Rattle.std.proofs.Math.Seq.{take-suc}
-use Rattle.std.proofs.lemmas.List.{append_assoc as append-assoc, map-append, take_all}
+use Rattle.std.proofs.lemmas.List.{map-append, take_all}
 
 pub pushed-more : {X Y : Type 0} (f : X → Y) (xs : List X) (n : ℕ) (x : X) (old new : List Y) (y : Y) → n < length xs → x ≡ get_or xs n x
     → old ≡ map f (take n xs) → new ≡ old ++ y ∷ [] → y ≡ f x → new ≡ map f (take (n + 1) xs)

@@ -3,23 +3,19 @@ use Rattle.std.proofs.Common.{◌≡◌, ◌∙◌, ◌+◌, ◌<◌, ℕ, Bool,
 use Rattle.std.specs.Prelude.{◌&&◌, is_some, unwrap_or, option_map, if◌then◌else◌}
 use Rattle.std.specs.List.{enumerate_from, list_any, slice_get}
 use Rattle.std.proofs.lemmas.Bool.{false≢true}
-use Rattle.std.proofs.lemmas.Option.{same_Some, slice_get-map}
+use Rattle.std.proofs.lemmas.Option.{slice_get-map}
 use Rattle.gtfs_rows.specs.Trips.{left_at, stop_rows_by_trip}
-use Rattle.gtfs_rows.specs.Places.{members}
-use Rattle.gtfs_rows.specs.Views.{IsSoundParts, content_of_parts, stop_ids, text_of_number}
-use Rattle.gtfs_rows.specs.declared.frequency.Frequency.{Frequency}
+use Rattle.gtfs_rows.specs.Views.{IsSoundParts}
 use Rattle.gtfs_rows.specs.declared.parts.Parts.{Parts}
 use Rattle.gtfs_stop_times.specs.declared.stop_row.StopRow.{StopRow}
-use Rattle.gtfs_rows.specs.declared.trip.Trip.{Trip}
 use Rattle.gtfs_rows.proofs.TripFacts.{stop_times}
 use Rattle.gtfs_times.proofs.FilledContent.{sound-timed}
 use Rattle.gtfs_times.proofs.TimedContent.{by_trip}
 use Rattle.gtfs_times.specs.TimedRows.{filled_stop_time, filled_stop_times, is_interpolated, lacks_time, position_time, timed_parts, timed_stop_times}
 use Rattle.gtfs_times.specs.declared.times.Times.{Times}
 use Rattle.gtfs_times.specs.declared.times.Times.TheVariants as times
-use Rattle.gtfs_runs.specs.declared.stop_lanes.passing.Passing.{Passing}
 use Rattle.gtfs_runs.specs.steps.Groups.{stops_in}
-use Rattle.gtfs_runs.specs.steps.Passings.{AreTripTimes, first_left, passings_of}
+use Rattle.gtfs_runs.specs.steps.Passings.{AreTripTimes, first_left}
 use Rattle.gtfs_runs.proofs.TripTimes.{left_within, starts_before}
 
 pub trip_times : (p : Parts) → IsSoundParts p → (t : ℕ) (rs : List StopRow) → slice_get (stop_rows_by_trip p) t ≡ Some rs → AreTripTimes (length p.stops) rs

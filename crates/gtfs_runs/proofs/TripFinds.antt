@@ -14,7 +14,6 @@ use Rattle.std.proofs.lemmas.List.Sorted.{IsPermutation-append, IsPermutation-re
 use Rattle.std.proofs.lemmas.Option.{get_or_from_slice_get, slice_get_within}
 use Rattle.std.proofs.lemmas.Simd.{map-map}
 use Rattle.gtfs_columns.specs.Values.{if_there}
-use Rattle.gtfs_rows.specs.Content.{Content}
 use Rattle.gtfs_rows.specs.Rows as content
 use Rattle.gtfs_rows.specs.declared.frequency.Frequency.{Frequency}
 use Rattle.gtfs_rows.specs.declared.parts.Parts.{Parts}
@@ -27,16 +26,14 @@ use Rattle.gtfs_rows.proofs.TripFacts.{periods, stop_times}
 use Rattle.gtfs_rows.proofs.TripsAt.{content_trip}
 use Rattle.gtfs_runs.specs.Counts.{is_same, tally}
 use Rattle.gtfs_runs.specs.Events.{is_event}
-use Rattle.gtfs_runs.specs.Kinds.{IsPeriodLane}
 use Rattle.gtfs_runs.specs.Lanes.{Course, courses_of, departure_rows, has_periods, stops_of}
 use Rattle.gtfs_rows.specs.Places.{members}
-use Rattle.gtfs_runs.specs.StopLanes.{LaneValue}
 use Rattle.gtfs_rows.specs.Runs.{allows_boarding, is_departure_row, is_not_last, is_run, is_timed, passes_at, starts_run, trip_start}
 use Rattle.gtfs_runs.specs.declared.event.Event.{Event}
 use Rattle.gtfs_runs.specs.declared.stop_lanes.passing.Passing.{Passing}
 use Rattle.gtfs_runs.specs.steps.Courses.{IsCourse, IsListed, Stopping, course_of, stopping_events}
 use Rattle.gtfs_runs.specs.steps.Groups.{stops_in}
-use Rattle.gtfs_runs.specs.steps.Finds.{AreFound, AreTold, stopping_at, times_passed_in, times_told}
+use Rattle.gtfs_runs.specs.steps.Finds.{AreTold, stopping_at, times_passed_in}
 use Rattle.gtfs_runs.specs.steps.Passings.{first_left, leaves, passing_at, passing_event, passings_of}
 use Rattle.gtfs_runs.proofs.ContentEvents.{event_is, is_at}
 use Rattle.gtfs_runs.proofs.ContentRows.{departure_rows_are, own_run, period_run}

@@ -1,5 +1,5 @@
 -- When a vehicle leaves the stop times of a trip of sound parts: not before the trip starts, and not after 999:59:59.
-use Rattle.std.proofs.Common.{◌≡◌, ◌≤◌, ◌<◌, ◌+◌, ◌++◌, ◌∙◌, ℕ, zero, suc, true, List, [], ◌∷◌, length, get_or, Option, Some, None, refl, arith, ◌==◌}
+use Rattle.std.proofs.Common.{◌≡◌, ◌≤◌, ◌<◌, ℕ, zero, suc, true, List, [], ◌∷◌, length, get_or, Option, Some, None, refl, arith, ◌==◌}
 use Rattle.std.specs.Prelude.{IfSome, is_some, unwrap_or}
 use Rattle.std.specs.List.{All, slice_get}
 use Rattle.std.specs.Option.{option_or}

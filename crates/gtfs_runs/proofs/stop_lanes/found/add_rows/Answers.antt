@@ -1,9 +1,6 @@
-use Rattle.std.proofs.Common.{◌≡◌, ◌≤◌, ◌<◌, ◌+◌, ◌∙◌, ◌++◌, [], ◌∷◌, get_or, length, map, take, sym, ap, subst, arith}
+use Rattle.std.proofs.Common.{◌≡◌, ◌≤◌, ◌+◌, ◌++◌, [], ◌∷◌, get_or, length, map, take, sym, subst, arith}
 use Rattle.std.proofs.lemmas.List.{take_all, take_more}
-use Rattle.gtfs_rows.specs.Trips.{stop_rows_by_trip}
 use Rattle.gtfs_runs.specs.StopLanes.{period_value}
-use Rattle.gtfs_runs.specs.steps.Groups.{trip_group}
-use Rattle.gtfs_runs.specs.steps.Passings.{first_left}
 use Rattle.gtfs_runs.specs.steps.RowFinds.{AreAdded}
 use Rattle.gtfs_runs.proofs.RowSteps.{more_added, no_row, none_added}
 use Rattle.gtfs_runs.proofs.stop_lanes.found.add_rows.Goals as goal

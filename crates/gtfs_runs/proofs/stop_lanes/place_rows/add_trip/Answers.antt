@@ -1,4 +1,4 @@
-use Rattle.std.proofs.Common.{◌∙◌, length, refl, sym}
+use Rattle.std.proofs.Common.{◌∙◌, sym}
 use Rattle.std.proofs.lemmas.Result.{on_ok_weaker}
 use Rattle.gtfs_times.specs.TimedRows.{timed_parts}
 use Rattle.gtfs_runs.proofs.TimedTrips.{filled_under, rows_timed, times_of}

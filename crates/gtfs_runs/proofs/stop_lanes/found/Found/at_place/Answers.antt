@@ -1,4 +1,4 @@
-use Rattle.std.proofs.Common.{◌∙◌, [], List, map, sym, ap, subst}
+use Rattle.std.proofs.Common.{List, map, sym, ap, subst}
 use Rattle.std.specs.List.{All}
 use Rattle.gtfs_runs.specs.StopLanes.{LaneValue, period_value}
 use Rattle.gtfs_runs.specs.declared.stop_index.DepartureRow.{DepartureRow}
