@@ -1,5 +1,5 @@
 -- How often lanes tell an event, as lanes are added.
-use Rattle.std.proofs.Common.{◌≡◌, ◌≤◌, ◌<◌, ◌+◌, ◌*◌, ◌-◌, ◌++◌, ◌∙◌, ℕ, Bool, true, false, cond, List, [], ◌∷◌, length, filter, take, get_or, nat_le, nat_lt, refl, sym, ap, arith, inl, inr, ◌&&◌, ◌==◌, zero-add}
+use Rattle.std.proofs.Common.{◌≡◌, ◌≤◌, ◌<◌, ◌+◌, ◌-◌, ◌++◌, ◌∙◌, ℕ, Bool, true, false, cond, List, [], ◌∷◌, length, filter, take, get_or, nat_le, nat_lt, refl, sym, ap, arith, inl, inr, ◌&&◌, ◌==◌, zero-add}
 use Rattle.std.specs.Prelude.{◌%◌}
 use Rattle.std.specs.List.{flat_map}
 use Rattle.std.proofs.lemmas.Bool.{and_parts, cases_Bool, leb-true, ltb-true}
@@ -85,20 +85,13 @@ both_more false a m c = omega arith
 -- ---- the steps of the code
 
 -- a lane of a period more
-pub period_more : (k : ℕ) (e : Event) (service trip : ℕ) (f : Frequency) (xs : List Passing) (n : ℕ) (d : Passing) (start mid : List LaneValue) (lane : LaneValue)
-    → n < length xs → lane.service ≡ service
-    → tally (is_same e) lane.events ≡ cond (is_of_period (passing_event trip f.start_time (get_or xs n d)) (frequency_of f) e) 1 0
-    → times_told k e mid ≡ times_told k e start + cond (service == k) (times_passed trip e (take n xs) f) 0
-    → times_told k e (mid ++ lane ∷ []) ≡ times_told k e start + cond (service == k) (times_passed trip e (take (n + 1) xs) f) 0
-period_more k e service trip f xs n d start mid lane within serves told so_far =
-    let q : Passing → Bool = λ x. starts_run (frequency_of f) e.run && is_same e (passing_event trip e.run x) in
-    let x = get_or xs n d in
-    let step : times_passed trip e (take (n + 1) xs) f ≡ times_passed trip e (take n xs) f + cond (q x) 1 0 =
-    ap (tally q) (taken xs n d within) ∙ tally-append q (take n xs) (x ∷ []) ∙ ap (λ m. tally q (take n xs) + m) (plus-zero (cond (q x) 1 0)) in
-    let one : tally (is_same e) lane.events ≡ cond (q x) 1 0 = told ∙ ap (λ b. cond b 1 0) (period_same trip e x f) in
-    told-push k e mid lane ∙ (λ i. so_far i + cond (serves i == k) (one i) 0)
-    ∙ both_more (service == k) (times_told k e start) (times_passed trip e (take n xs) f) (cond (q x) 1 0)
-    ∙ ap (λ m. times_told k e start + cond (service == k) m 0) (sym step)
+pub period_more : (k : ℕ) (e : Event) (service trip : ℕ) (f : Frequency) (x : Passing) (old : List LaneValue) (lane : LaneValue) → lane.service ≡ service
+    → tally (is_same e) lane.events ≡ cond (is_of_period (passing_event trip f.start_time x) (frequency_of f) e) 1 0
+    → times_told k e (old ++ lane ∷ []) ≡ times_told k e old + cond (service == k) (times_passed trip e (x ∷ []) f) 0
+period_more k e service trip f x old lane serves told =
+    let q : Bool = starts_run (frequency_of f) e.run && is_same e (passing_event trip e.run x) in
+    let one : tally (is_same e) lane.events ≡ cond q 1 0 + 0 = told ∙ ap (λ b. cond b 1 0) (period_same trip e x f) ∙ sym (plus-zero (cond q 1 0)) in
+    told-push k e old lane ∙ (λ i. times_told k e old + cond (serves i == k) (one i) 0)
 
 passed-append : (trip : ℕ) (e : Event) (xs : List Passing) (fs : List Frequency) (f : Frequency) → times_passed_in trip e xs (fs ++ f ∷ []) ≡ times_passed_in trip e xs fs + times_passed trip e xs f
 passed-append trip e xs [] f = plus-zero (times_passed trip e xs f) ∙ sym (zero-add (times_passed trip e xs f))
@@ -116,6 +109,3 @@ periods_more k e service trip fs xs n d start mid new within so_far added =
     added ∙ ap (λ m. m + cond (service == k) (times_passed trip e xs f) 0) so_far
     ∙ both_more (service == k) (times_told k e start) (times_passed_in trip e xs (take n fs)) (times_passed trip e xs f)
     ∙ ap (λ m. times_told k e start + cond (service == k) m 0) (sym (ap (times_passed_in trip e xs) (taken fs n d within) ∙ passed-append trip e xs (take n fs) f))
-
-pub lanes_counted : (old n m mid new : ℕ) → mid ≡ old + n * m → new ≡ mid + m → new ≡ old + (n + 1) * m
-lanes_counted old n m mid new so_far added = omega arith

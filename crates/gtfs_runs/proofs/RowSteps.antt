@@ -1,5 +1,5 @@
 -- What one departure row adds, and what several add one after the other.
-use Rattle.std.proofs.Common.{◌≡◌, ◌<◌, ◌+◌, ◌*◌, ◌++◌, ◌∙◌, ◌==◌, ℕ, Bool, true, false, cond, List, [], ◌∷◌, Some, length, map, get_or, refl, sym, ap, subst, arith, append_assoc}
+use Rattle.std.proofs.Common.{◌≡◌, ◌<◌, ◌+◌, ◌++◌, ◌∙◌, ◌==◌, ℕ, Bool, true, false, cond, List, [], ◌∷◌, Some, length, map, get_or, refl, sym, ap, subst, arith, append_assoc}
 use Rattle.std.specs.Prelude.{option_map, unwrap_or}
 use Rattle.std.specs.List.{All, slice_get}
 use Rattle.std.proofs.lemmas.List.{append-nil, map-append}
@@ -64,7 +64,7 @@ event_added p row x old new periods once event service pushed =
 pub periods_added : (p : Parts) → IsSoundParts p → (row : DepartureRow) (service : ℕ) (fs : List Frequency) (listed : List Listed) (before after : List LaneValue) → row.trip < length p.trips
     → service ≡ (trip_group p row.trip).0 → slice_get (frequencies_by_trip p) row.trip ≡ Some fs → (length fs == 0) ≡ false
     → ((k : ℕ) (e : Event) → times_told k e after ≡ times_told k e before + cond (service == k) (times_passed_in row.trip e (row_passing p row ∷ []) fs) 0)
-    → length after ≡ length before + length fs * 1
+    → length after ≡ length before + length fs
     → ((n : ℕ) → service < n → All (λ lane. lane.service < n) before → All (λ lane. lane.service < n) after)
     → ((c : Content) (v : content.Trip) → slice_get c.trips row.trip ≡ Some v → v.frequencies ≡ map frequency_of fs → All (IsPeriodLane c) before → All (IsPeriodLane c) after)
     → AreAdded p (row ∷ []) listed listed before after
@@ -92,7 +92,7 @@ periods_added p sound row service fs listed before after inside serves at severa
     one : (a : ℕ) {m n c : ℕ} → c ≡ a + m → m ≡ n → c ≡ a + (n + 0)
     one a is same = omega (arith, is, same)
 
-    once : (a b : ℕ) {c n : ℕ} → c ≡ a + b * 1 → b ≡ n → c ≡ a + (n + 0)
+    once : (a b : ℕ) {c n : ℕ} → c ≡ a + b → b ≡ n → c ≡ a + (n + 0)
     once a b is same = omega (arith, is, same)
 
 -- ---- several rows

@@ -1,4 +1,4 @@
-ghost use Rattle.std.specs.Prelude.{◌≡◌, ◌≤◌, ◌<◌, ◌+◌, ◌*◌, ◌==◌, ◌∷◌, ℕ, All, IfOk, List, OnOk, Some, [], cond, length, map, not, slice_get, slice_index_or};
+ghost use Rattle.std.specs.Prelude.{◌≡◌, ◌≤◌, ◌<◌, ◌+◌, ◌==◌, ◌∷◌, ℕ, All, IfOk, List, OnOk, Some, [], cond, length, map, not, slice_get, slice_index_or};
 ghost use Rattle.gtfs_rows.specs.Content.{Content};
 ghost use Rattle.gtfs_rows.specs.Rows.{Trip};
 ghost use Rattle.gtfs_rows.specs.Trips.{frequencies_by_trip, stop_rows_by_trip};
@@ -106,32 +106,27 @@ pub(crate) fn add_row(
         return Ok(());
     }
     let service = ServiceNo(indexed.service as usize);
-    add_periods(
-        service,
-        trip,
-        feed.trip_frequencies(trip),
-        &[passing],
-        &mut found.periods,
-    )?;
+    let frequencies = feed.trip_frequencies(trip);
+    add_periods(service, trip, frequencies, &passing, &mut found.periods)?;
     Ok(())
 }
 
-// Adds the lanes of the frequencies of a trip.
+// Adds the lanes of the frequencies of a trip at one of its stop times.
 fn add_periods(
     service: ServiceNo,
     trip: TripNo,
     frequencies: &[Frequency],
-    passings: &[Passing],
+    passing: &Passing,
     periods: &mut Vec<StepLane>,
 ) -> Result<(), OutOfMemory>
     requires runs { All HasRuns frequencies.now }
-    requires after { All (λ x. x.after ≤ 3_599_999) passings.now }
+    requires after { passing.now.after ≤ 3_599_999 }
     ensures told { OnOk result ((k : ℕ) (e : EventValue)
         → times_told k e (map period_value periods.new.items)
         ≡ times_told k e (map period_value periods.old.items)
-        + cond (service.0 == k) (times_passed_in trip.0 e passings.now frequencies.now) 0) }
+        + cond (service.0 == k) (times_passed_in trip.0 e (passing.now ∷ []) frequencies.now) 0) }
     ensures counted { OnOk result (length periods.new.items
-        ≡ length periods.old.items + length frequencies.now * length passings.now) }
+        ≡ length periods.old.items + length frequencies.now) }
     ensures within { OnOk result ((n : ℕ) → service.0 < n
         → All (λ lane. lane.service < n) (map period_value periods.old.items)
         → All (λ lane. lane.service < n) (map period_value periods.new.items)) }
@@ -141,27 +136,26 @@ fn add_periods(
         → All (IsPeriodLane c) (map period_value periods.new.items)) }
 {
     for frequency in frequencies {
-        add_period(service, trip, frequency, passings, periods)?;
+        add_period(service, trip, frequency, passing, periods)?;
     }
     Ok(())
 }
 
-// Adds the lanes of one row of frequencies.txt.
+// Adds the lane of one row of frequencies.txt.
 fn add_period(
     service: ServiceNo,
     trip: TripNo,
     frequency: &Frequency,
-    passings: &[Passing],
+    passing: &Passing,
     periods: &mut Vec<StepLane>,
 ) -> Result<(), OutOfMemory>
     requires runs { HasRuns frequency.now }
-    requires after { All (λ x. x.after ≤ 3_599_999) passings.now }
+    requires after { passing.now.after ≤ 3_599_999 }
     ensures told { OnOk result ((k : ℕ) (e : EventValue)
         → times_told k e (map period_value periods.new.items)
         ≡ times_told k e (map period_value periods.old.items)
-        + cond (service.0 == k) (times_passed trip.0 e passings.now frequency.now) 0) }
-    ensures counted { OnOk result (length periods.new.items
-        ≡ length periods.old.items + length passings.now) }
+        + cond (service.0 == k) (times_passed trip.0 e (passing.now ∷ []) frequency.now) 0) }
+    ensures counted { OnOk result (length periods.new.items ≡ length periods.old.items + 1) }
     ensures within { OnOk result ((n : ℕ) → service.0 < n
         → All (λ lane. lane.service < n) (map period_value periods.old.items)
         → All (λ lane. lane.service < n) (map period_value periods.new.items)) }
@@ -171,9 +165,7 @@ fn add_period(
         → All (IsPeriodLane c) (map period_value periods.old.items)
         → All (IsPeriodLane c) (map period_value periods.new.items)) }
 {
-    for passing in passings {
-        let first = passing.event(trip, frequency.start_time.seconds());
-        periods.push(StepLane::of_period(service, first, frequency))?;
-    }
+    let first = passing.event(trip, frequency.start_time.seconds());
+    periods.push(StepLane::of_period(service, first, frequency))?;
     Ok(())
 }

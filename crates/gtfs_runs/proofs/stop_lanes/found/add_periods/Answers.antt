@@ -1,4 +1,4 @@
-use Rattle.std.proofs.Common.{◌≡◌, ◌+◌, ◌==◌, ◌∙◌, Some, cond, length, map, get_or, sym, ap}
+use Rattle.std.proofs.Common.{◌≡◌, ◌+◌, ◌==◌, ◌∙◌, [], ◌∷◌, Some, cond, map, get_or, sym, ap, arith}
 use Rattle.std.specs.Prelude.{option_map}
 use Rattle.std.specs.List.{slice_get}
 use Rattle.std.proofs.lemmas.List.{get_or_default}
@@ -8,7 +8,7 @@ use Rattle.gtfs_rows.specs.Views.{frequency_of}
 use Rattle.gtfs_rows.specs.declared.frequency.Frequency.{Frequency}
 use Rattle.gtfs_runs.specs.StopLanes.{period_value}
 use Rattle.gtfs_runs.specs.steps.Finds.{times_passed, times_told}
-use Rattle.gtfs_runs.proofs.LaneTallies.{lanes_counted, periods_more}
+use Rattle.gtfs_runs.proofs.LaneTallies.{periods_more}
 use Rattle.gtfs_runs.proofs.Pushes.{none-done}
 use Rattle.gtfs_runs.proofs.stop_lanes.found.add_periods.Goals as goal
 
@@ -22,9 +22,9 @@ loop-frequency-preserved c =
     let mid = map period_value c.loop-frequency.periods.items in
     record {
       told = λ k e.
-          periods_more k e c.args.service.0 c.args.trip.0 fs c.args.passings.now n d (map period_value c.args.periods.now.items) mid (map period_value c.add_period.new.periods.items) within (c.loop-frequency.invariant.told k e)
-          (c.in_ok-add_period.ensures.told k e ∙ ap (λ f. times_told k e mid + cond (c.args.service.0 == k) (times_passed c.args.trip.0 e c.args.passings.now f) 0) same);
-      counted = lanes_counted _ n (length c.args.passings.now) _ _ c.loop-frequency.invariant.counted c.in_ok-add_period.ensures.counted;
+          periods_more k e c.args.service.0 c.args.trip.0 fs (c.args.passing.now ∷ []) n d (map period_value c.args.periods.now.items) mid (map period_value c.add_period.new.periods.items) within (c.loop-frequency.invariant.told k e)
+          (c.in_ok-add_period.ensures.told k e ∙ ap (λ f. times_told k e mid + cond (c.args.service.0 == k) (times_passed c.args.trip.0 e (c.args.passing.now ∷ []) f) 0) same);
+      counted = omega (arith, c.loop-frequency.invariant.counted, c.in_ok-add_period.ensures.counted);
       within = λ m serves known. c.in_ok-add_period.ensures.within m serves (c.loop-frequency.invariant.within m serves known);
       kind = λ k t at rows were.
           let f = c.frequency-item.result in

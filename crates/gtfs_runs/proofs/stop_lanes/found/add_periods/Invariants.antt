@@ -1,4 +1,4 @@
-use Rattle.std.proofs.Common.{◌≡◌, ◌<◌, ◌+◌, ◌*◌, ℕ, Some, cond, length, map, take}
+use Rattle.std.proofs.Common.{◌≡◌, ◌<◌, ◌+◌, ℕ, [], ◌∷◌, Some, cond, length, map, take}
 use Rattle.std.specs.Prelude.{◌==◌}
 use Rattle.std.specs.List.{All, slice_get}
 use Rattle.gtfs_rows.specs.Content.{Content}
@@ -14,8 +14,8 @@ use Rattle.gtfs_runs.proofs.stop_lanes.found.add_periods.Given as goal
 abbrev pub invariant-loop-frequency : goal.invariant-loop-frequency
 invariant-loop-frequency l = record {
   told : (k : ℕ) (e : Event) → times_told k e (map period_value l.periods.items)
-      ≡ times_told k e (map period_value l.fn.periods.items) + cond (l.service.0 == k) (times_passed_in l.trip.0 e l.passings (take l.frequency-index l.frequencies)) 0;
-  counted : length l.periods.items ≡ length l.fn.periods.items + l.frequency-index * length l.passings;
+      ≡ times_told k e (map period_value l.fn.periods.items) + cond (l.service.0 == k) (times_passed_in l.trip.0 e (l.passing ∷ []) (take l.frequency-index l.frequencies)) 0;
+  counted : length l.periods.items ≡ length l.fn.periods.items + l.frequency-index;
   within : (n : ℕ) → l.service.0 < n → All (λ lane. lane.service < n) (map period_value l.fn.periods.items) → All (λ lane. lane.service < n) (map period_value l.periods.items);
   kind : (c : Content) (t : Trip) → slice_get c.trips l.trip.0 ≡ Some t → t.frequencies ≡ map frequency_of l.frequencies
       → All (IsPeriodLane c) (map period_value l.fn.periods.items) → All (IsPeriodLane c) (map period_value l.periods.items);

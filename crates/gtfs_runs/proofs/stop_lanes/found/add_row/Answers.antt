@@ -1,4 +1,4 @@
-use Rattle.std.proofs.Common.{◌≡◌, ◌<◌, ◌+◌, ◌*◌, ◌∙◌, ◌==◌, [], ◌∷◌, Bool, true, false, not, Some, cond, get_or, length, map, refl, sym, ap, subst, arith}
+use Rattle.std.proofs.Common.{◌≡◌, ◌<◌, ◌+◌, ◌∙◌, ◌==◌, [], ◌∷◌, Bool, true, false, not, Some, cond, get_or, length, map, refl, sym, ap, subst, arith}
 use Rattle.std.specs.List.{slice_get}
 use Rattle.std.proofs.lemmas.List.{length-map}
 use Rattle.std.proofs.lemmas.Option.{slice_get-get_or}
@@ -21,7 +21,7 @@ of-requires-clause-start c =
     omega (arith, c.requires.start, bound)
 
 pub add_periods-requires-clause-runs : goal.add_periods-requires-clause-runs
-add_periods-requires-clause-runs c = periods_run c.args.feed.now c.soundness.ensures c.trip-trip.result.0 c.trip_frequencies.result.now c.trip_frequencies.ensures
+add_periods-requires-clause-runs c = periods_run c.args.feed.now c.soundness.ensures c.trip-trip.result.0 c.trip_frequencies-frequencies.result.now c.trip_frequencies-frequencies.ensures
 
 pub returns-then-not-indexed-clause-added : goal.returns-then-not-indexed-clause-added
 returns-then-not-indexed-clause-added c =
@@ -48,8 +48,8 @@ returns-clause-added c =
     let t = row.trip in
     let trip : c.trip-trip.result.0 ≡ t = c.trip-trip.ensures in
     let passing : c.of-passing.result ≡ row_passing p row = c.of-passing.ensures ∙ ap (λ n. noted_passing n row) c.requires.start in
-    let fs = c.trip_frequencies.result.now in
-    let at : slice_get (frequencies_by_trip p) t ≡ Some fs = subst (λ n. slice_get (frequencies_by_trip p) n ≡ Some fs) trip c.trip_frequencies.ensures in
+    let fs = c.trip_frequencies-frequencies.result.now in
+    let at : slice_get (frequencies_by_trip p) t ≡ Some fs = subst (λ n. slice_get (frequencies_by_trip p) n ≡ Some fs) trip c.trip_frequencies-frequencies.ensures in
     let service = c.args.indexed.service in
     let before = c.args.found.now.periods.items in
     let after = c.add_periods.new.periods.items in
@@ -58,7 +58,7 @@ returns-clause-added c =
     c.requires.service at
     (is_some (length fs == 0) (sym (c.requires.marked fs at) ∙ c.if-not-indexed.false))
     (λ k e. told.told k e ∙ (λ i. times_told k e (map period_value before) + cond (service == k) (times_passed_in (trip i) e (passing i ∷ []) fs) 0))
-    (length-map after period_value ∙ told.counted ∙ ap (λ n. n + length fs * 1) (sym (length-map before period_value)))
+    (length-map after period_value ∙ told.counted ∙ ap (λ n. n + length fs) (sym (length-map before period_value)))
     told.within
     (λ k v there. told.kind k v (subst (λ n. slice_get k.trips n ≡ Some v) (sym trip) there))
   where
