@@ -23,6 +23,9 @@ count-map p f (x ∷ xs) =
 
 -- ---- codes
 
+pub code-itself : (a : Code × About) → has_one_code a a ≡ true
+code-itself a = elim (eqb_tells (advice_rank a.0) (advice_rank a.0)) [ inl same ↦ same.0 | inr other ↦ absurd (other.1 refl) ]
+
 pub code-turned : (a b : Code × About) → has_one_code a b ≡ has_one_code b a
 code-turned a b = elim (eqb_tells (advice_rank a.0) (advice_rank b.0)) [
   | inl same ↦ λ i. same.1 i == sym same.1 i

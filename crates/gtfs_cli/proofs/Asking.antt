@@ -1,5 +1,5 @@
 -- What a line asks for.
-use Rattle.std.proofs.Common.{◌≡◌, ◌∙◌, ◌≢◌, ap, sym, false, ℕ, ◌+◌, List, [], ◌∷◌, ◌++◌, drop, length, get_or, Option, None, Some, codes, arith}
+use Rattle.std.proofs.Common.{◌≡◌, ◌∙◌, ◌≢◌, ap, sym, refl, true, false, ℕ, ◌+◌, List, [], ◌∷◌, ◌++◌, drop, length, get_or, Option, None, Some, codes, arith}
 use Rattle.std.specs.Borrow.{Bor}
 use Rattle.std.specs.Prelude.{is_some, MatchOption}
 use Rattle.std.specs.List.{slice_get}
@@ -19,9 +19,30 @@ strip-text n s (Some x) h = h.1.1 ∙ ap (λ (t : List ℕ). n ++ t) (sym h.2)
 
 -- ---- nothing is asked for
 
+-- the line has neither word
+pub no-word : (times : Times) (line : List ℕ) → ((fields : List ℕ) → line ≢ codes "board" ++ 9 ∷ fields) → ((fields : List ℕ) → line ≢ codes "timetable" ++ 9 ∷ fields)
+    → (q : Question) → AsksFor times line q → ⊥
+no-word times line board timetable (Board q) asks = board asks.0 asks.1
+no-word times line board timetable (Timetable r) asks = timetable asks.0 asks.1
+
 -- the words begin with other letters
 other-word : (x y : List ℕ) → codes "board" ++ 9 ∷ x ≡ codes "timetable" ++ 9 ∷ y → ⊥
 other-word x y is = let first : 98 ≡ 116 = ap (λ (l : List ℕ). get_or l 0 0) is in omega (arith, first)
+
+-- its fields ask for nothing
+pub no-board : (times : Times) (line fields : List ℕ) → line ≡ codes "board" ++ 9 ∷ fields → stop_request times fields ≡ None → (q : Question) → AsksFor times line q → ⊥
+no-board times line fields is none (Board q) asks =
+    let same : fields ≡ asks.0 = ap (λ (l : List ℕ). drop 6 l) (sym is ∙ asks.1) in
+    let both : None ≡ Some q = sym none ∙ ap (stop_request times) same ∙ asks.2 in
+    cc both
+no-board times line fields is none (Timetable r) asks = other-word fields asks.0 (sym is ∙ asks.1)
+
+pub no-timetable : (times : Times) (line fields : List ℕ) → line ≡ codes "timetable" ++ 9 ∷ fields → route_request times fields ≡ None → (q : Question) → AsksFor times line q → ⊥
+no-timetable times line fields is none (Board q) asks = other-word asks.0 fields (sym asks.1 ∙ is)
+no-timetable times line fields is none (Timetable r) asks =
+    let same : fields ≡ asks.0 = ap (λ (l : List ℕ). drop 10 l) (sym is ∙ asks.1) in
+    let both : None ≡ Some r = sym none ∙ ap (route_request times) same ∙ asks.2 in
+    cc both
 
 -- a line asks for one thing
 pub one-question : (times : Times) (line : List ℕ) (p q : Question) → AsksFor times line p → AsksFor times line q → p ≡ q
@@ -35,6 +56,13 @@ one-question times line (Timetable p) (Timetable q) a b =
     ap (λ (r : RouteRequest). Timetable r) (same_Some p q (sym a.2 ∙ ap (route_request times) same ∙ b.2))
 
 -- ---- the texts of a timetable by the fields of its line
+
+pub too_many_of_route : (fs : List (List ℕ)) → is_some (slice_get fs 3) ≡ true → None ≡ route_texts_in fs
+too_many_of_route [] more = refl
+too_many_of_route (a ∷ []) more = refl
+too_many_of_route (a ∷ b ∷ []) more = cc
+too_many_of_route (a ∷ b ∷ c ∷ []) more = cc
+too_many_of_route (a ∷ b ∷ c ∷ d ∷ rest) more = refl
 
 pub are_route_texts : (fs : List (List ℕ)) (route date : List ℕ) (direction : Option (List ℕ)) → is_some (slice_get fs 3) ≡ false
     → slice_get fs 0 ≡ Some route → slice_get fs 1 ≡ Some date → direction ≡ option_and_then text_if_any (slice_get fs 2)

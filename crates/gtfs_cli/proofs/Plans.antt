@@ -11,7 +11,7 @@ use Rattle.gtfs_cli.specs.Plan.{answer_of, passed, prints, Ends, IsRefusedIn, Pl
 use Rattle.gtfs_cli.specs.Reads.{CallsFolders}
 use Rattle.gtfs_cli.specs.Refusals.{TellsFolders, TellsOutput}
 use Rattle.gtfs_cli.specs.Seen.{Device, Output}
-use Rattle.gtfs_cli.specs.Sending.{joined, or_none, text_left, AreWholeLines, AreSent, Begins, IsSendingCause, PrintsText, SendsSome}
+use Rattle.gtfs_cli.specs.Sending.{joined, or_none, text_left, AreWholeLines, AreSent, Begins, IsSendingCause, IsSent, PrintsText, SendsSome}
 use Rattle.gtfs_cli.specs.declared.commands.refusal.Refusal.{Refusal}
 use Rattle.gtfs_cli.specs.declared.commands.refusal.Refusal.TheVariants.{OutputFailed, OutOfMemory}
 use Rattle.gtfs_cli.proofs.FailuresTold.{output-kept, sending-told}
@@ -198,6 +198,22 @@ prints-later W C D W' C' D' a b c e same p sent = record {
   grows = omega (arith, p.grows, same);
   no_failure = tt;
 }
+
+-- a text that was sent out is one that was printed
+pub sent-printed : {A : Type 0} (W : List ℕ → Type 0) (Cause : Refusal → Type 0) (a b : Output) (text : List ℕ) → W text → (r : Result A Refusal) → IsSent text a b r
+    → PrintsText W (Begins W) (or_none (Begins W)) Cause a b r
+sent-printed W Cause a b text is (Ok x) h = record { printed = (text, is, h.sent); left = tt; refused = tt; told = tt; grows = h.grows; no_failure = h.no_failure }
+sent-printed W Cause a b text is (Err e) h = record {
+  printed = tt;
+  left = left-of e h.refused;
+  refused = inr h.refused;
+  told = sending-told a.failures b.failures e h.refused;
+  grows = h.grows;
+  no_failure = tt;
+}
+  where
+    begun : Begins W h.cut_short.sent
+    begun = record { text = text; left = h.cut_short.left; is_text = is; whole = h.cut_short.whole }
 
     left-of : (x : Refusal) → IsSendingCause a.failures b.failures x → SendsSome (λ part. text_left (Begins W) (or_none (Begins W)) part x) a b
     left-of OutputFailed cause = (h.cut_short.sent, begun, h.cut_short.out)

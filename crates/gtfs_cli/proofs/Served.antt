@@ -1,5 +1,7 @@
 -- From the parts of a conversation to how the command ends.
 use Rattle.std.proofs.Common.{◌≡◌, ◌⊎◌, ◌≢◌, ℕ, Bool, List, [], Option, Result, Ok, Err, inl, inr, refl, sym, subst, arith}
+use Rattle.std.specs.Prelude.{IsErrAnd}
+use Rattle.std.proofs.KnownBytes.{Appends-nil}
 use Rattle.clap.specs.Words.{Text}
 use Rattle.gtfs_conversation.specs.Conversation.{AnswersAll, AnswersSome, Hearing}
 use Rattle.gtfs_conversation.specs.declared.conversation.ConversationFault.TheVariants as faults
@@ -23,8 +25,9 @@ use Rattle.gtfs_cli.specs.Seen.{Device, Devices, Output as Told, Talk}
 use Rattle.gtfs_cli.specs.Sending.{IsSendingCause, SendsSome}
 use Rattle.gtfs_cli.specs.Serving.{serve_judges, serve_plan, Converses, ConversesUntil, IsHearingCause, ServeSetting, ServesUntil}
 use Rattle.gtfs_cli.specs.declared.commands.refusal.Refusal.{Refusal}
-use Rattle.gtfs_cli.specs.declared.commands.refusal.Refusal.TheVariants.{InputFailed, OutputFailed}
+use Rattle.gtfs_cli.specs.declared.commands.refusal.Refusal.TheVariants.{InputFailed, OutputFailed, OutOfMemory}
 use Rattle.gtfs_cli.proofs.BoardParts.{has-passing}
+use Rattle.gtfs_cli.proofs.FailuresTold.{output-kept}
 use Rattle.gtfs_cli.proofs.Plans.{asks-answered}
 
 -- ---- refused before a line is asked for
@@ -34,6 +37,19 @@ pub serves-none : (limit : ℕ) (held : Option Store) (talk : Talk) (asked : Ser
 serves-none limit held talk asked InputFailed same input output = absurd (input refl)
 serves-none limit held talk asked OutputFailed same input output = absurd (output refl)
 serves-none limit held talk asked _ same input output = (refl, same)
+
+-- memory ran out before a line was asked for
+pub converses-none : {T : Type 0} (f : Content) (z : Zone) (times : Times) (talk : Talk) → talk.after ≡ talk.before → (a : Told) (r : Result T Refusal) → IsErrAnd r (λ e. e ≡ OutOfMemory)
+    → Converses f z times talk a a r
+converses-none f z times talk same a (Ok x) is = absurd is
+converses-none {T} f z times talk same a (Err e) is = subst (λ (x : Refusal). Converses f z times talk {T = T} a a (Err x)) (sym is) (record {
+  answered = tt;
+  left = ([], (refl, same), Appends-nil a.told);
+  refused = inr refl;
+  told = output-kept a.failures OutOfMemory;
+  grows = omega arith;
+  no_failure = tt;
+})
 
 -- all lines were answered by an index of the feed
 pub converses-all : {T : Type 0} (p feed : Feed) → p ≡ feed → (z : Zone) (given times : Times) → given ≡ times → (talk : Talk) (a b : Told) (x : T)
