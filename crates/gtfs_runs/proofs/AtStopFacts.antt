@@ -35,10 +35,9 @@ use Rattle.gtfs_times.specs.declared.times.Times.{Times}
 use Rattle.gtfs_runs.specs.Counts.{tally}
 use Rattle.gtfs_rows.specs.Order.{Ascends}
 use Rattle.gtfs_runs.specs.StopIndex.{departure_row_cmp, has_departure_row, is_this_row, index_trip_cmp}
-use Rattle.gtfs_runs.specs.declared.grouped_trip.GroupedTrip.{GroupedTrip}
+use Rattle.gtfs_runs.specs.steps.Groups.{AreOfTrips, GroupedTripValue, group_cmp, grouped_cmp, trip_group}
 use Rattle.gtfs_runs.specs.declared.stop_index.DepartureRow.{DepartureRow}
 use Rattle.gtfs_runs.specs.steps.AtStops.{StandBefore, at_stop, departs_of, leaves_stop, position_of}
-use Rattle.gtfs_runs.specs.steps.Groups.{AreOfTrips, group_cmp, grouped_cmp, trip_group}
 use Rattle.gtfs_runs.specs.steps.Noted.{IsNoted, noted_row}
 use Rattle.gtfs_runs.specs.steps.Passings.{first_left}
 use Rattle.gtfs_runs.proofs.ContentEvents.{past_trips, row_at}
@@ -71,12 +70,12 @@ never true = refl
 never false = refl
 
 -- the list of its stop gets one more
-pub row_added : (p : Parts) (u : Trip) (rows : List StopRow) (fs : List Frequency) (t n : ℕ) (d y : StopRow) (old new : List (List DepartureRow)) (x : DepartureRow) → n < length rows
-    → is_departure_row (trip_of p u rows fs) (stop_row_of p (get_or rows n d)) ≡ true → x ≡ noted_row t n y
+pub row_added : (p : Parts) (u : Trip) (rows : List StopRow) (fs : List Frequency) (t k n : ℕ) (d y : StopRow) (old new : List (List DepartureRow)) (x : DepartureRow) → n < length rows
+    → is_departure_row (trip_of p u rows fs) (stop_row_of p (get_or rows n d)) ≡ true → x ≡ noted_row t k n y
     → (get_or rows n d).stop_id.0 < length old → new ≡ set old (get_or rows n d).stop_id.0 (at_stop old (get_or rows n d).stop_id.0 ++ x ∷ [])
     → (s v r : ℕ) → tally (is_this_row v r) (at_stop new s)
     ≡ tally (is_this_row v r) (at_stop old s) + cond ((v == t) && (r == n) && if_there (slice_get rows r) (leaves_stop p u rows fs s)) 1 0
-row_added p u rows fs t n d y old new x within departs is known pushed s v r =
+row_added p u rows fs t k n d y old new x within departs is known pushed s v r =
     let stop = (get_or rows n d).stop_id.0 in
     let asked : ((v == t) && (r == n) && (stop == s)) ≡ ((v == t) && (r == n) && if_there (slice_get rows r) (leaves_stop p u rows fs s)) =
     ap (λ b. (v == t) && (r == n) && (b && (stop == s))) (sym departs) ∙ sym (asked_here (v == t) (leaves_stop p u rows fs s) rows n r d within) in
@@ -225,14 +224,14 @@ module _ (p : Parts) (t n : ℕ) where
   row_later lists all = λ k d within. stand_later (get_or lists k d) (all k d within)
 
   -- the row at the position comes last
-  pub row_last : (s : ℕ) (y : StopRow) (x : DepartureRow) (old new : List (List DepartureRow)) → x ≡ noted_row t n y → s < length old
+  pub row_last : (s k : ℕ) (y : StopRow) (x : DepartureRow) (old new : List (List DepartureRow)) → x ≡ noted_row t k n y → s < length old
       → new ≡ set old s (at_stop old s ++ x ∷ []) → All (StandBefore p t n) old → All (StandBefore p t (n + 1)) new
-  row_last s y x old new is within pushed all =
+  row_last s k y x old new is within pushed all =
       let own = at_stop old s in
       let stand = all s [] within in
       let first = stand_later own stand in
       let last : StandBefore p t (n + 1) (own ++ x ∷ []) = record {
-        in_order = all_pairs_push (λ a b. departure_row_cmp p a b ≡ Less) own x stand.in_order (λ k d inside. ap (departure_row_cmp p (get_or own k d)) is ∙ stand.before k d inside);
+        in_order = all_pairs_push (λ a b. departure_row_cmp p a b ≡ Less) own x stand.in_order (λ j d inside. ap (departure_row_cmp p (get_or own j d)) is ∙ stand.before j d inside);
         before = All-push (λ y. departure_row_cmp p y (position_of t (n + 1)) ≡ Less) own x first.before
             (ap (λ y. departure_row_cmp p y (position_of t (n + 1))) is ∙ later_row p t n);
       } in
@@ -241,10 +240,10 @@ module _ (p : Parts) (t n : ℕ) where
 -- ---- trip after trip
 
 -- the trips of a feed in their order, some of which are done: how often each of these is
-abbrev pub done : List GroupedTrip → ℕ → ℕ → ℕ
+abbrev pub done : List GroupedTripValue → ℕ → ℕ → ℕ
 done trips n t = tally (λ x. t == x.trip.0) (take n trips)
 
-pub done_more : (trips : List GroupedTrip) (n t : ℕ) (d : GroupedTrip) → n < length trips → done trips (n + 1) t ≡ done trips n t + cond (t == (get_or trips n d).trip.0) 1 0
+pub done_more : (trips : List GroupedTripValue) (n t : ℕ) (d : GroupedTripValue) → n < length trips → done trips (n + 1) t ≡ done trips n t + cond (t == (get_or trips n d).trip.0) 1 0
 done_more trips n t d within = ap (tally (λ x. t == x.trip.0)) (take_more trips n d within) ∙ tally-push (λ x. t == x.trip.0) (take n trips) (get_or trips n d)
 
 -- the rows of one trip more
@@ -254,16 +253,16 @@ rows_more true a b old new false was more is = omega (arith, was, more, is)
 rows_more false a b old new true was more is = omega (arith, was, more)
 rows_more false a b old new false was more is = omega (arith, was, more)
 
-pub none_done : (departs : Bool) (trips : List GroupedTrip) (t : ℕ) → ◌≡◌ {A = ℕ} 0 (cond departs (done trips 0 t) 0)
+pub none_done : (departs : Bool) (trips : List GroupedTripValue) (t : ℕ) → ◌≡◌ {A = ℕ} 0 (cond departs (done trips 0 t) 0)
 none_done true trips t = refl
 none_done false trips t = refl
 
-module _ (p : Parts) (trips : List GroupedTrip) (are : AreOfTrips p (length p.trips) trips) where
+module _ (p : Parts) (trips : List GroupedTripValue) (are : AreOfTrips p (length p.trips) trips) where
   -- each is one of the feed
-  pub known_trip : (n : ℕ) (x : GroupedTrip) → n < length trips → x ≡ get_or trips n x → x.trip.0 < length p.trips
+  pub known_trip : (n : ℕ) (x : GroupedTripValue) → n < length trips → x ≡ get_or trips n x → x.trip.0 < length p.trips
   known_trip n x within is =
       let t = x.trip.0 in
-      let some = one_at (λ z. t == z.trip.0) trips n x within (ap (λ (z : GroupedTrip). t == z.trip.0) (sym is) ∙ itself t) in
+      let some = one_at (λ z. t == z.trip.0) trips n x within (ap (λ (z : GroupedTripValue). t == z.trip.0) (sym is) ∙ itself t) in
       inside (nat_lt t (length p.trips)) refl (are.once t) some
     where
       inside : (b : Bool) → nat_lt x.trip.0 (length p.trips) ≡ b → tally (λ z. x.trip.0 == z.trip.0) trips ≡ cond b 1 0 → 1 ≤ tally (λ z. x.trip.0 == z.trip.0) trips → x.trip.0 < length p.trips
@@ -278,16 +277,16 @@ module _ (p : Parts) (trips : List GroupedTrip) (are : AreOfTrips p (length p.tr
       by true is = ap (tally (λ x. t == x.trip.0)) (take_all n trips past) ∙ are.once t ∙ ap (λ b. cond b 1 0) (lt-ltb t (length p.trips) (within is))
       by false is = refl
 
-module _ (p : Parts) (trips : List GroupedTrip) (are : AreOfTrips p (length p.trips) trips) (up : IsSorted grouped_cmp trips) (n : ℕ) (within : n < length trips) where
+module _ (p : Parts) (trips : List GroupedTripValue) (are : AreOfTrips p (length p.trips) trips) (up : IsSorted grouped_cmp trips) (n : ℕ) (within : n < length trips) where
   -- the order of trips is that of their rows
-  same_order : (i j : ℕ) (d : GroupedTrip) → i < length trips → j < length trips
+  same_order : (i j : ℕ) (d : GroupedTripValue) → i < length trips → j < length trips
       → grouped_cmp (get_or trips i d) (get_or trips j d) ≡ index_trip_cmp p (get_or trips i d).trip.0 (get_or trips j d).trip.0
   same_order i j d first second = λ k.
       ordering_then (group_cmp (are.groups i d first k) (are.groups j d second k))
       (ordering_then (nat_cmp (are.starts i d first k) (are.starts j d second k)) (nat_cmp (get_or trips i d).trip.0 (get_or trips j d).trip.0))
 
   -- each of the trips before is a lower one
-  lower : (k : ℕ) (d : GroupedTrip) → k < n → index_trip_cmp p (get_or trips k d).trip.0 (get_or trips n d).trip.0 ≡ Less
+  lower : (k : ℕ) (d : GroupedTripValue) → k < n → index_trip_cmp p (get_or trips k d).trip.0 (get_or trips n d).trip.0 ≡ Less
   lower k d before =
       let x = get_or trips k d in
       let y = get_or trips n d in
@@ -309,7 +308,7 @@ module _ (p : Parts) (trips : List GroupedTrip) (are : AreOfTrips p (length p.tr
       twice t u same two = most (nat_lt u (length p.trips)) (tally (λ z. u == z.trip.0) trips) (are.once u) (two (ap (λ m. u == m) same ∙ itself u) (itself u))
 
   -- so all rows so far stand before those of the next trip
-  pub stand_before : (lists : List (List DepartureRow)) (departs : ℕ → ℕ → ℕ → Bool) (d : GroupedTrip) → All (Ascends (departure_row_cmp p)) lists
+  pub stand_before : (lists : List (List DepartureRow)) (departs : ℕ → ℕ → ℕ → Bool) (d : GroupedTripValue) → All (Ascends (departure_row_cmp p)) lists
       → ((s t r : ℕ) → tally (is_this_row t r) (at_stop lists s) ≡ cond (departs s t r) (done trips n t) 0) → All (StandBefore p (get_or trips n d).trip.0 0) lists
   stand_before lists departs d in_order told = λ s l inside. record {
     in_order = in_order s l inside;
@@ -322,7 +321,7 @@ module _ (p : Parts) (trips : List GroupedTrip) (are : AreOfTrips p (length p.tr
         found_at (λ z. row.trip == z.trip.0) (take n trips) _ (counted (departs s row.trip row.row) (done trips n row.trip) (tally (is_this_row row.trip row.row) (get_or lists s l)) count some)
         (λ i taken is.
         let below : i < n = let size = length-take-le n trips (omega (arith, within)) in omega (arith, taken, size) in
-        let same : row.trip ≡ (get_or trips i d).trip.0 = eqb-true row.trip (get_or trips i d).trip.0 (ap (λ (z : GroupedTrip). row.trip == z.trip.0) (sym (get_or-take n trips i d below)) ∙ is d) in
+        let same : row.trip ≡ (get_or trips i d).trip.0 = eqb-true row.trip (get_or trips i d).trip.0 (ap (λ (z : GroupedTripValue). row.trip == z.trip.0) (sym (get_or-take n trips i d below)) ∙ is d) in
         let less : index_trip_cmp p row.trip (get_or trips n d).trip.0 ≡ Less = ap (λ m. index_trip_cmp p m (get_or trips n d).trip.0) same ∙ lower i d below in
         ap (λ o. ordering_then o (nat_cmp row.row 0)) less);
   }
@@ -332,26 +331,26 @@ module _ (p : Parts) (trips : List GroupedTrip) (are : AreOfTrips p (length p.tr
       counted false a m is some = absurd (omega (arith, is, some))
 
 -- what is noted of a stop time at a position of its trip is right
-pub noted_here : (p : Parts) (t n : ℕ) (rows : List StopRow) (y : StopRow) (x : DepartureRow) → slice_get (stop_rows_by_trip p) t ≡ Some rows → n < length rows → y ≡ get_or rows n y → x ≡ noted_row t n y
+pub noted_here : (p : Parts) (t k n : ℕ) (rows : List StopRow) (y : StopRow) (x : DepartureRow) → slice_get (stop_rows_by_trip p) t ≡ Some rows → n < length rows → y ≡ get_or rows n y → x ≡ noted_row t k n y
     → IsNoted p x
-noted_here p t n rows y x at within is noted = λ others d there inside.
+noted_here p t k n rows y x at within is noted = λ others d there inside.
     let lists = stop_rows_by_trip p in
     let same : others ≡ rows = sym (get_or_from_slice_get lists x.trip others [] there) ∙ ap (λ z. get_or lists z.trip []) noted ∙ get_or_from_slice_get lists t rows [] at in
     let item : get_or others x.row d ≡ y = (λ i. get_or (same i) (noted i).row d) ∙ get_or_default rows n d y within ∙ sym is in
-    noted ∙ (λ i. noted_row (sym noted i).trip (sym noted i).row (sym item i))
+    noted ∙ (λ i. noted_row (sym noted i).trip (sym noted i).rank (sym noted i).row (sym item i))
 
 -- one list gets one more of these
-pub noted_last : (p : Parts) (s : ℕ) (x : DepartureRow) (old new : List (List DepartureRow)) → IsNoted p x → s < length old → new ≡ set old s (at_stop old s ++ x ∷ []) → All (All (IsNoted p)) old
-    → All (All (IsNoted p)) new
-noted_last p s x old new is within pushed all =
+pub one_more : (P : DepartureRow → Type 0) (s : ℕ) (x : DepartureRow) (old new : List (List DepartureRow)) → P x → s < length old → new ≡ set old s (at_stop old s ++ x ∷ []) → All (All P) old
+    → All (All P) new
+one_more P s x old new is within pushed all =
     let own = at_stop old s in
-    subst (All (All (IsNoted p))) (sym pushed) (All-set (All (IsNoted p)) old s (own ++ x ∷ []) (All-push (IsNoted p) own x (all s [] within) is) all)
+    subst (All (All P)) (sym pushed) (All-set (All P) old s (own ++ x ∷ []) (All-push P own x (all s [] within) is) all)
 
 -- ---- before the first trip
 
-pub nothing_noted : {X : Type 0} (p : Parts) (xs : List X) → All (All (IsNoted p)) (map (λ _. []) xs)
-nothing_noted p [] = All-nil (All (IsNoted p))
-nothing_noted p (x ∷ xs) = All-cons (All (IsNoted p)) [] (map (λ _. []) xs) (All-nil (IsNoted p)) (nothing_noted p xs)
+pub none_yet : {X : Type 0} (P : DepartureRow → Type 0) (xs : List X) → All (All P) (map (λ _. []) xs)
+none_yet P [] = All-nil (All P)
+none_yet P (x ∷ xs) = All-cons (All P) [] (map (λ _. []) xs) (All-nil P) (none_yet P xs)
 
 pub nothing_at : {X : Type 0} (xs : List X) (s : ℕ) → at_stop (map (λ _. []) xs) s ≡ []
 nothing_at [] s = refl

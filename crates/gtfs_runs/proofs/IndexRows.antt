@@ -78,16 +78,20 @@ module _ (choice : Times) (p : Parts) (sound : IsSoundParts p) (index : List (Li
       ∙ (λ i. at_one s t r within i + at_children t r children known i)
       ∙ place_sum q (sound-timed p sound choice) s within children own t r
 
-  noted_one : (n : ℕ) → n < length p.stops → All (IsNoted q) (at_stop index n)
-  noted_one n inside = let there : n < length index = omega (arith, inside, are.counted) in notes n [] there
+  of_one : (P : DepartureRow → Type 0) → All (All P) index → (n : ℕ) → n < length p.stops → All P (at_stop index n)
+  of_one P all n inside = let there : n < length index = omega (arith, inside, are.counted) in all n [] there
 
-  noted_children : (xs : List Child) → All (λ x. x.stop < length p.stops) xs → All (IsNoted q) (children_rows index xs)
-  noted_children [] all = All-nil (IsNoted q)
-  noted_children (x ∷ xs) all =
-      All-append (IsNoted q) (at_stop index x.stop) (children_rows index xs) (noted_one x.stop (All-head (λ y. y.stop < length p.stops) x xs all)) (noted_children xs (All-tail (λ y. y.stop < length p.stops) x xs all))
+  of_children : (P : DepartureRow → Type 0) → All (All P) index → (xs : List Child) → All (λ x. x.stop < length p.stops) xs → All P (children_rows index xs)
+  of_children P all [] stops = All-nil P
+  of_children P all (x ∷ xs) stops =
+      All-append P (at_stop index x.stop) (children_rows index xs) (of_one P all x.stop (All-head (λ y. y.stop < length p.stops) x xs stops)) (of_children P all xs (All-tail (λ y. y.stop < length p.stops) x xs stops))
+
+  -- what holds of all departure rows holds of these
+  pub of_all : (P : DepartureRow → Type 0) → All (All P) index → All P rows
+  of_all P all = All-append P (at_stop index s) (children_rows index children) (of_one P all s within) (of_children P all children known)
 
   pub noted_rows : All (IsNoted q) rows
-  noted_rows = All-append (IsNoted q) (at_stop index s) (children_rows index children) (noted_one s within) (noted_children children known)
+  noted_rows = of_all (IsNoted q) notes
 
   pub inside_rows : All (IsInside p) rows
   inside_rows = rows_inside choice p sound rows (stop_times_there q (sound-timed p sound choice) s rows of_place) noted_rows

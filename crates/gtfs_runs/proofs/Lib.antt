@@ -19,6 +19,7 @@ mod TripFinds
 mod TripsElsewhere
 pub mod TripTimes
 mod Ranks
+mod Leads
 mod Numbers
 mod GroupFacts
 pub mod CourseOrder

@@ -16,19 +16,22 @@ use Rattle.std.proofs.lemmas.Cmp.{nat_cmp_total, on_total, then_total}
 use Rattle.std.proofs.lemmas.List.{get_or-map, get_or-take, get_or_default, length-map, length-take-le}
 use Rattle.std.proofs.lemmas.List.Elements.{All-drop, All-map, All-set}
 use Rattle.std.proofs.lemmas.List.Sorted.{All-permutation}
+use Rattle.gtfs_field.proofs.NumberFacts.{number_itself as itself}
 use Rattle.gtfs_field.proofs.OrderingFacts.{tied as both_equal}
 use Rattle.gtfs_rows.proofs.SameElements.{pairs-map}
 use Rattle.gtfs_rows.specs.Order.{Ascends}
+use Rattle.gtfs_rows.specs.declared.numbers.TripNo.{TripNo}
 use Rattle.gtfs_rows.specs.declared.parts.Parts.{Parts}
 use Rattle.gtfs_runs.specs.Order.{event_cmp}
-use Rattle.gtfs_runs.specs.declared.grouped_trip.GroupedTrip.{GroupedTrip}
 use Rattle.gtfs_runs.specs.declared.stop_lanes.listed.Listed.{Listed}
 use Rattle.gtfs_runs.specs.steps.Courses.{AreServed, course_no_cmp, event_of, stopping_cmp, stopping_of}
-use Rattle.gtfs_runs.specs.steps.Groups.{Group, below, group_cmp, group_of, grouped_cmp, sharing, trip_group}
+use Rattle.gtfs_runs.specs.steps.Groups.{Group, GroupedTripValue, below, group_cmp, group_of, grouped_cmp, sharing, trip_group}
 use Rattle.gtfs_runs.specs.steps.Numbers.{AreNumbered, IsNumbered, is_alike, listed_cmp}
+use Rattle.gtfs_runs.specs.Counts.{tally}
 use Rattle.gtfs_runs.proofs.Chunks.{all_mapped}
+use Rattle.gtfs_runs.proofs.Counting.{tally-map}
 use Rattle.gtfs_runs.proofs.Ranks.{ranks_compare}
-use Rattle.gtfs_runs.proofs.Tallies.{tally-permutation, tally-push}
+use Rattle.gtfs_runs.proofs.Tallies.{tally-permutation, tally-push, tally-weaker}
 
 pub groups_total : IsTotalOrder group_cmp
 groups_total = search (comparing, rules) depth 20
@@ -53,40 +56,47 @@ numbers_left p n xs all = All-drop (λ x. All (IsNumbered p x) (drop n xs)) n xs
 
 -- ---- who shares groups
 
-pub sharing_more : (trips : List GroupedTrip) (x : GroupedTrip) (g : Group) → 1 ≤ sharing trips g → 1 ≤ sharing (trips ++ x ∷ []) g
-sharing_more trips x g some = let more = tally-push (λ y. is_eq (group_cmp (group_of y) g)) trips x in omega (arith, more, some)
-
-pub sharing_own : (trips : List GroupedTrip) (x : GroupedTrip) → 1 ≤ sharing (trips ++ x ∷ []) (group_of x)
-sharing_own trips x =
-    let more = tally-push (λ y. is_eq (group_cmp (group_of y) (group_of x))) trips x in
-    let own : is_eq (group_cmp (group_of x) (group_of x)) ≡ true = ap is_eq (tied_itself groups_total (group_of x)) in
-    let one : ◌≡◌ {A = ℕ} (cond (is_eq (group_cmp (group_of x) (group_of x))) 1 0) 1 = ap (λ b. cond b 1 0) own in
-    omega (arith, more, one)
-
 -- the trip of a further event is among these, or it is that of the event before
-pub trips_more : (p : Parts) (xs : List Listed) (trips new : List GroupedTrip) (n : ℕ) (x : GroupedTrip) → ((d : Listed) → group_of x ≡ trip_group p (get_or xs n d).trip)
-    → new ≡ trips ++ x ∷ [] → ((k : ℕ) (d : Listed) → k < n → 1 ≤ sharing trips (trip_group p (get_or xs k d).trip))
-    → (k : ℕ) (d : Listed) → k < n + 1 → 1 ≤ sharing new (trip_group p (get_or xs k d).trip)
-trips_more p xs trips new n x is pushed so_far k d upto = subst (λ l. 1 ≤ sharing l (trip_group p (get_or xs k d).trip)) (sym pushed) (elim (cases_Bool (nat_lt k n)) [
-  | inl low ↦ sharing_more trips x (trip_group p (get_or xs k d).trip) (so_far k d (ltb-true k n low))
+pub trips_more : (xs : List Listed) (trips new : List TripNo) (n : ℕ) (t : TripNo) → ((d : Listed) → (get_or xs n d).trip ≡ t.0)
+    → new ≡ trips ++ t ∷ [] → ((k : ℕ) (d : Listed) → k < n → 1 ≤ tally (λ u. (get_or xs k d).trip == u.0) trips)
+    → (k : ℕ) (d : Listed) → k < n + 1 → 1 ≤ tally (λ u. (get_or xs k d).trip == u.0) new
+trips_more xs trips new n t is pushed so_far k d upto = subst (λ l. 1 ≤ tally (λ u. (get_or xs k d).trip == u.0) l) (sym pushed) (elim (cases_Bool (nat_lt k n)) [
+  | inl low ↦
+      let before = so_far k d (ltb-true k n low) in
+      let more = tally-push (λ u. (get_or xs k d).trip == u.0) trips t in
+      omega (arith, before, more)
   | inr high ↦
       let last : k ≡ n = omega (arith, ltb-false k n high, upto) in
-      subst (λ g. 1 ≤ sharing (trips ++ x ∷ []) g) (is d ∙ ap (λ m. trip_group p (get_or xs m d).trip) (sym last)) (sharing_own trips x)
+      let more = tally-push (λ u. (get_or xs k d).trip == u.0) trips t in
+      let own : ((get_or xs k d).trip == t.0) ≡ true = ap (λ m. m == t.0) (ap (λ j. (get_or xs j d).trip) last ∙ is d) ∙ itself t.0 in
+      let one : ◌≡◌ {A = ℕ} (cond ((get_or xs k d).trip == t.0) 1 0) 1 = ap (λ b. cond b 1 0) own in
+      omega (arith, more, one)
 ])
 
-pub trips_kept : (p : Parts) (xs : List Listed) (trips new : List GroupedTrip) (n : ℕ) → 0 < n → ((d : Listed) → (get_or xs (n - 1) d).trip ≡ (get_or xs n d).trip) → new ≡ trips
-    → ((k : ℕ) (d : Listed) → k < n → 1 ≤ sharing trips (trip_group p (get_or xs k d).trip)) → (k : ℕ) (d : Listed) → k < n + 1 → 1 ≤ sharing new (trip_group p (get_or xs k d).trip)
-trips_kept p xs trips new n some before kept so_far k d upto = subst (λ l. 1 ≤ sharing l (trip_group p (get_or xs k d).trip)) (sym kept) (elim (cases_Bool (nat_lt k n)) [
+pub trips_kept : (xs : List Listed) (trips new : List TripNo) (n : ℕ) → 0 < n → ((d : Listed) → (get_or xs (n - 1) d).trip ≡ (get_or xs n d).trip) → new ≡ trips
+    → ((k : ℕ) (d : Listed) → k < n → 1 ≤ tally (λ u. (get_or xs k d).trip == u.0) trips) → (k : ℕ) (d : Listed) → k < n + 1 → 1 ≤ tally (λ u. (get_or xs k d).trip == u.0) new
+trips_kept xs trips new n some before kept so_far k d upto = subst (λ l. 1 ≤ tally (λ u. (get_or xs k d).trip == u.0) l) (sym kept) (elim (cases_Bool (nat_lt k n)) [
   | inl low ↦ so_far k d (ltb-true k n low)
   | inr high ↦
       let last : k ≡ n = omega (arith, ltb-false k n high, upto) in
-      subst (λ t. 1 ≤ sharing trips (trip_group p t)) (before d ∙ ap (λ m. (get_or xs m d).trip) (sym last)) (so_far (n - 1) d (omega (arith, some)))
+      subst (λ t. 1 ≤ tally (λ u. t == u.0) trips) (before d ∙ ap (λ m. (get_or xs m d).trip) (sym last)) (so_far (n - 1) d (omega (arith, some)))
 ])
+
+-- the group of a trip that is among these is among theirs
+pub shared : (p : Parts) (trips : List TripNo) (grouped : List GroupedTripValue) (t : ℕ) → map group_of grouped ≡ map (λ u. trip_group p u.0) trips
+    → 1 ≤ tally (λ u. t == u.0) trips → 1 ≤ sharing grouped (trip_group p t)
+shared p trips grouped t same some =
+    let g = trip_group p t in
+    let counted : sharing grouped g ≡ tally (λ u. is_eq (group_cmp (trip_group p u.0) g)) trips =
+    sym (tally-map (λ h. is_eq (group_cmp h g)) group_of grouped) ∙ ap (tally (λ h. is_eq (group_cmp h g))) same ∙ tally-map (λ h. is_eq (group_cmp h g)) (λ u. trip_group p u.0) trips in
+    let most = tally-weaker (λ u. t == u.0) (λ u. is_eq (group_cmp (trip_group p u.0) g)) trips
+    (λ u is. ap (λ m. is_eq (group_cmp (trip_group p m) g)) (sym (eqb-true t u.0 is)) ∙ ap is_eq (tied_itself groups_total g)) in
+    omega (arith, counted, most, some)
 
 -- ---- numbers against groups
 
 -- a further event has its number
-pub number_more : (p : Parts) (trips : List GroupedTrip) (xs : List Listed) (n : ℕ) (y : Listed) → n < length xs → y.group ≡ below trips (trip_group p y.trip)
+pub number_more : (p : Parts) (trips : List GroupedTripValue) (xs : List Listed) (n : ℕ) (y : Listed) → n < length xs → y.group ≡ below trips (trip_group p y.trip)
     → ((k : ℕ) (d : Listed) → k < n → (get_or xs k d).group ≡ below trips (trip_group p (get_or xs k d).trip))
     → (k : ℕ) (d : Listed) → k < n + 1 → (get_or (slice_set xs n y) k d).group ≡ below trips (trip_group p (get_or (slice_set xs n y) k d).trip)
 number_more p trips xs n y within number so_far k d upto = elim (cases_Bool (nat_lt k n)) [
@@ -103,7 +113,7 @@ number_more p trips xs n y within number so_far k d upto = elim (cases_Bool (nat
 pub kept_by : {X Y : Type 0} (f : X → Y) (xs : List X) (n : ℕ) (x y : X) → x ≡ get_or xs n x → f y ≡ f x → map f (slice_set xs n y) ≡ map f xs
 kept_by f xs n x y is same = map-set_same f xs n y x (same ∙ ap f is)
 
-pub are_numbered : (p : Parts) (trips sorted : List GroupedTrip) (xs : List Listed) → IsPermutation trips sorted → All (λ x. 1 ≤ sharing trips (trip_group p x.trip)) xs
+pub are_numbered : (p : Parts) (trips sorted : List GroupedTripValue) (xs : List Listed) → IsPermutation trips sorted → All (λ x. 1 ≤ sharing trips (trip_group p x.trip)) xs
     → All (λ x. x.group ≡ below sorted (trip_group p x.trip)) xs → AreNumbered p xs
 are_numbered p trips sorted xs same shared numbers i d within j e inside =
     let g = trip_group p (get_or xs i d).trip in
@@ -156,7 +166,7 @@ first_not_less Equal s is = λ i. false
 first_not_less Greater s is = λ i. false
 
 -- trips in their order stand by group
-pub by_groups : (xs : List GroupedTrip) → IsSorted grouped_cmp xs → IsSorted (λ x y. group_cmp (group_of x) (group_of y)) xs
+pub by_groups : (xs : List GroupedTripValue) → IsSorted grouped_cmp xs → IsSorted (λ x y. group_cmp (group_of x) (group_of y)) xs
 by_groups xs up k d from within = first_not_less _ _ (up k d from within)
 
 -- that of the fields, of which the service and the rank are the last
@@ -261,7 +271,7 @@ both_made (Ok x) P Q R take first second = take x first second
 both_made (Err e) P Q R take first second = tt
 
 -- events of the same trips share with as many
-pub shared_by : (p : Parts) (trips : List GroupedTrip) (xs ys : List Listed) → ((q : Parts) → map (stopping_of q) xs ≡ map (stopping_of q) ys)
+pub shared_by : (p : Parts) (trips : List GroupedTripValue) (xs ys : List Listed) → ((q : Parts) → map (stopping_of q) xs ≡ map (stopping_of q) ys)
     → All (λ x. 1 ≤ sharing trips (trip_group p x.trip)) xs → All (λ x. 1 ≤ sharing trips (trip_group p x.trip)) ys
 shared_by p trips xs ys same all =
     all_mapped (λ z. 1 ≤ sharing trips (trip_group p z.event.trip.0)) (stopping_of p) ys

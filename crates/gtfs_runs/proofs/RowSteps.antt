@@ -31,7 +31,7 @@ use Rattle.gtfs_runs.proofs.TripTimes.{none_left, rows_at}
 
 -- one that stands nowhere
 abbrev pub no_row : DepartureRow
-no_row = record { trip = 0; row = 0; left = 0; sequence = 0 }
+no_row = record { trip = 0; row = 0; left = 0; sequence = 0; rank = 0 }
 
 -- ---- one row
 

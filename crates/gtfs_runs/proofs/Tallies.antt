@@ -105,6 +105,19 @@ tally-same q r [] same = refl
 tally-same q r (x ∷ xs) same = λ i. cond (same x i) 1 0 + tally-same q r xs same i
 
 -- a test that does not look at the element
+-- what passes one test passes the other
+pub tally-weaker : {X : Type 0} (q r : X → Bool) (xs : List X) → ((x : X) → q x ≡ true → r x ≡ true) → tally q xs ≤ tally r xs
+tally-weaker q r [] weaker = omega arith
+tally-weaker q r (x ∷ xs) weaker =
+    let rest = tally-weaker q r xs weaker in
+    elim (cases_Bool (q x)) [
+      | inl is ↦
+          let one : ◌≡◌ {A = ℕ} (cond (q x) 1 0) 1 = ap (λ b. cond b 1 0) is in
+          let other : ◌≡◌ {A = ℕ} (cond (r x) 1 0) 1 = ap (λ b. cond b 1 0) (weaker x is) in
+          omega (arith, rest, one, other)
+      | inr isnt ↦ let none : ◌≡◌ {A = ℕ} (cond (q x) 1 0) 0 = ap (λ b. cond b 1 0) isnt in omega (arith, rest, none)
+    ]
+
 pub tally-and : {X : Type 0} (q : X → Bool) (b : Bool) (xs : List X) → tally (λ x. q x && b) xs ≡ cond b (tally q xs) 0
 tally-and q true [] = refl
 tally-and q false [] = refl

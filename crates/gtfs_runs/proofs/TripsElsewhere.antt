@@ -36,9 +36,9 @@ use Rattle.gtfs_runs.proofs.TimedTrips.{rows_timed, stops_timed}
 -- ---- one stop time
 
 -- the list gets one more
-pub here_added : (q : StopRow → Bool) (rows : List StopRow) (t n : ℕ) (d y : StopRow) (x : DepartureRow) (old new : List DepartureRow) → n < length rows → q (get_or rows n d) ≡ true
-    → x ≡ noted_row t n y → new ≡ old ++ x ∷ [] → (v r : ℕ) → tally (is_this_row v r) new ≡ tally (is_this_row v r) old + cond ((v == t) && (r == n) && if_there (slice_get rows r) q) 1 0
-here_added q rows t n d y x old new within leaves is pushed v r =
+pub here_added : (q : StopRow → Bool) (rows : List StopRow) (t k n : ℕ) (d y : StopRow) (x : DepartureRow) (old new : List DepartureRow) → n < length rows → q (get_or rows n d) ≡ true
+    → x ≡ noted_row t k n y → new ≡ old ++ x ∷ [] → (v r : ℕ) → tally (is_this_row v r) new ≡ tally (is_this_row v r) old + cond ((v == t) && (r == n) && if_there (slice_get rows r) q) 1 0
+here_added q rows t k n d y x old new within leaves is pushed v r =
     ap (tally (is_this_row v r)) pushed ∙ tally-push (is_this_row v r) old x ∙ (λ i. tally (is_this_row v r) old + cond (is_this_row v r (is i)) 1 0)
     ∙ ap (λ b. tally (is_this_row v r) old + cond b 1 0)
     (sym (alone ((v == t) && (r == n))) ∙ ap (λ b. (v == t) && (r == n) && b) (sym leaves) ∙ sym (asked_here (v == t) q rows n r d within))
@@ -51,9 +51,9 @@ here_passed q rows t n d old new within stays same v r =
     ∙ kept (tally (is_this_row v r) old) _ (asked_here (v == t) q rows n r d within ∙ ap (λ b. (v == t) && (r == n) && b) stays ∙ never ((v == t) && (r == n)))
 
 -- it leaves before 999:59:59
-pub inside_push : (p : Parts) (t n : ℕ) (y : StopRow) (x : DepartureRow) (old new : List DepartureRow) → t < length p.trips → unwrap_or (left_at y) 0 ≤ 3_599_999 → x ≡ noted_row t n y → new ≡ old ++ x ∷ []
+pub inside_push : (p : Parts) (t k n : ℕ) (y : StopRow) (x : DepartureRow) (old new : List DepartureRow) → t < length p.trips → unwrap_or (left_at y) 0 ≤ 3_599_999 → x ≡ noted_row t k n y → new ≡ old ++ x ∷ []
     → All (IsInside p) old → All (IsInside p) new
-inside_push p t n y x old new within bound is pushed were =
+inside_push p t k n y x old new within bound is pushed were =
     subst (All (IsInside p)) (sym pushed) (All-push (IsInside p) old x were (subst (IsInside p) (sym is) (within, bound)))
 
 -- ---- one trip

@@ -6,6 +6,7 @@ pub mod Lists
 pub mod Apart
 pub mod Whole
 pub mod Noted
+pub mod Ranked
 pub mod Numbers
 pub mod AtStops
 pub mod Children

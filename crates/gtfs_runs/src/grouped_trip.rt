@@ -1,69 +1,96 @@
-ghost use Rattle.std.specs.Prelude.{◌≡◌, ◌<◌, [], IfOk, length, slice_index_or};
+ghost use Rattle.std.specs.Prelude.{◌≡◌, ◌<◌, ◌^◌, slice_index_or};
 ghost use Rattle.std.specs.List.Sorted.{IsPermutation, IsSorted};
-ghost use Rattle.gtfs_rows.specs.Trips.{stop_rows_by_trip};
-ghost use Rattle.gtfs_runs.specs.steps.Groups.{group_cmp, group_of, grouped_cmp, stops_in, trip_group};
-ghost use Rattle.gtfs_runs.specs.steps.Passings.{first_left};
+ghost use Rattle.gtfs_runs.specs.steps.Groups.{group_cmp, group_of, grouped_cmp, lead_of};
 
-use crate::departure_row::trip_start;
-use crate::stop_index::small_number;
-use gtfs_feed::Feed;
-use gtfs_field::OutOfMemory;
-use gtfs_rows::{ServiceNo, StopRow, TripNo};
-use std::alloc::Global;
+use gtfs_rows::TripNo;
 use std::cmp::Ordering;
+use std::marker::Model;
 
 // A trip by its group: its service and its stops.
 #[derive(Drop)]
-pub(crate) struct GroupedTrip {
-    pub(crate) trip: TripNo,
-    service: ServiceNo,
-    // The stops of the trip. Trips are compared often, and their stop times lie far apart, so the
-    // numbers of the stops are kept together.
-    stops: Vec<u32>,
+pub(crate) struct GroupedTrip<'a> {
+    trip: TripNo,
+    // Its first two stops. Trips are compared often, and mostly these decide, so that no list is
+    // looked at.
+    lead: u64,
+    stops: &'a [u32],
+    service: u32,
     // The second at which it leaves its first stop.
     start: u32,
 }
 
-impl GroupedTrip {
-    // A trip of the feed.
-    pub(crate) fn of(alloc: Global, feed: &Feed, trip: TripNo) -> Result<GroupedTrip, OutOfMemory>
-        requires { trip.0 < length feed.now.trips }
-        ensures trip { IfOk result (λ grouped. grouped.trip ≡ trip) }
-        ensures group { IfOk result (λ grouped. group_of grouped ≡ trip_group feed.now trip.0) }
-        ensures start { IfOk result (λ grouped. grouped.start
-            ≡ first_left (slice_index_or (stop_rows_by_trip feed.now) trip.0 [])) }
+impl<'a> Model for GroupedTrip<'a> {
+    ghost use Rattle.std.specs.Prelude.{◌≡◌, ◌<◌, ◌^◌, slice_index_or};
+    ghost use Rattle.gtfs_runs.specs.steps.Groups.{GroupedTripValue, lead_of};
+
+    ghost Value = { GroupedTripValue };
+
+    ghost view = { λ g. record {
+      trip = g.trip;
+      service = g.service;
+      stops = g.stops.now;
+      start = g.start;
+    } };
+
+    ghost invariant = { λ g. (g.lead ≡ lead_of g.stops.now)
+        × (slice_index_or g.stops.now 1 0 < 2 ^ 32) };
+}
+
+impl<'a> GroupedTrip<'a> {
+    // A trip of this service that leaves its first stop at this second and has these stops.
+    pub(crate) fn new(trip: TripNo, service: u32, start: u32, stops: &'a [u32]) -> GroupedTrip<'a>
+        ensures { result ≡ record {
+          trip = trip;
+          service = service;
+          stops = stops.now;
+          start = start;
+        } }
     {
-        let rows = feed.trip_rows(trip);
-        Ok(GroupedTrip {
+        GroupedTrip {
             trip,
-            service: feed.trip_by_number(trip).service_id,
-            stops: stops_of(alloc, rows)?,
-            start: trip_start(rows),
-        })
+            lead: lead(stops),
+            stops,
+            service,
+            start,
+        }
     }
 
-    // The numbers of its stops.
-    pub(crate) fn stops(&self) -> &[u32]
-        ensures { result.now ≡ (group_of self.now).1 }
+    // The trip.
+    pub(crate) fn trip(&self) -> TripNo
+        ensures { result ≡ self.now.trip }
     {
-        &self.stops
+        self.trip
+    }
+
+    // The number of its service.
+    pub(crate) fn service(&self) -> u32
+        ensures { result ≡ self.now.service }
+    {
+        self.service
+    }
+
+    // The second at which it leaves its first stop.
+    pub(crate) fn start(&self) -> u32
+        ensures { result ≡ self.now.start }
+    {
+        self.start
     }
 }
 
-// The numbers of the stops of these stop times.
-fn stops_of(alloc: Global, rows: &[StopRow]) -> Result<Vec<u32>, OutOfMemory>
-    ensures { IfOk result (λ stops. stops.items ≡ stops_in rows.now) }
+// The first two stops as one number that grows with the first, and then with the second: 0 stands
+// for one that is not there.
+fn lead(stops: &[u32]) -> u64
+    ensures value { result ≡ lead_of stops.now }
+    ensures second { slice_index_or stops.now 1 0 < 2 ^ 32 }
 {
-    let mut stops = Vec::with_capacity(alloc, rows.len())?;
-    for row in rows {
-        stops.push(small_number(row.stop_id.0)?)?;
-    }
-    Ok(stops)
+    let first = stops.first().copied().unwrap_or(0);
+    let second = stops.get(1).copied().unwrap_or(0);
+    (u64::from(first) << 32) + u64::from(second)
 }
 
 // The trips by group. Those of a group stand by when they start, and by their numbers.
-pub(crate) fn by_group(mut trips: Vec<GroupedTrip>) -> Vec<GroupedTrip>
-    ensures same { IsPermutation trips.items result.items }
+pub(crate) fn by_group(mut trips: Vec<GroupedTrip<'_>>) -> Vec<GroupedTrip<'_>>
+    ensures same { IsPermutation trips.entry.items result.items }
     ensures in_order { IsSorted grouped_cmp result.items }
 {
     trips.sort_unstable_by(|a, b| trip_order(a, b));
@@ -71,7 +98,7 @@ pub(crate) fn by_group(mut trips: Vec<GroupedTrip>) -> Vec<GroupedTrip>
 }
 
 // By group, by start and by number.
-fn trip_order(a: &GroupedTrip, b: &GroupedTrip) -> Ordering
+fn trip_order(a: &GroupedTrip<'_>, b: &GroupedTrip<'_>) -> Ordering
     ensures { result ≡ grouped_cmp a.now b.now }
 {
     group_order(a, b)
@@ -80,12 +107,16 @@ fn trip_order(a: &GroupedTrip, b: &GroupedTrip) -> Ordering
 }
 
 // Groups compare by service, and then by stops.
-pub(crate) fn group_order(a: &GroupedTrip, b: &GroupedTrip) -> Ordering
+pub(crate) fn group_order(a: &GroupedTrip<'_>, b: &GroupedTrip<'_>) -> Ordering
     ensures { result ≡ group_cmp (group_of a.now) (group_of b.now) }
 {
     let services = a.service.cmp(&b.service);
     if services.is_ne() {
         return services;
     }
-    a.stops.cmp(&b.stops)
+    let leads = a.lead.cmp(&b.lead);
+    if leads.is_ne() {
+        return leads;
+    }
+    a.stops.cmp(b.stops)
 }

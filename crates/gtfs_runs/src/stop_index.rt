@@ -2,8 +2,8 @@ ghost use Rattle.std.specs.Prelude.{◌≡◌, ◌<◌, ◌==◌, ℕ, All, IfOk
 ghost use Rattle.gtfs_runs.specs.Counts.{tally};
 ghost use Rattle.gtfs_runs.specs.StopIndex.{AreDepartureRows};
 ghost use Rattle.gtfs_runs.specs.steps.Children.{is_child};
-ghost use Rattle.gtfs_runs.specs.steps.Groups.{AreIndexedTrips};
 ghost use Rattle.gtfs_runs.specs.steps.Noted.{IsNoted, noted_row};
+ghost use Rattle.gtfs_runs.specs.steps.Ranked.{IsRanked};
 ghost use Rattle.gtfs_times.specs.TimedRows.{timed_parts};
 
 mod at_stops;
@@ -17,8 +17,8 @@ use crate::grouped_trip::by_group;
 pub(crate) use crate::stop_index::at_stops::{row_at, small_number};
 pub(crate) use crate::stop_index::children::Child;
 use crate::stop_index::children::Children;
-use crate::stop_index::indexed_trips::{indexed_trips, trips_of};
 pub(crate) use crate::stop_index::indexed_trips::{IndexedTrip, trip_at};
+use crate::stop_index::indexed_trips::{grouped_trips, indexed_trips, stops_of};
 use crate::stop_index::rows_by_stop::RowsByStop;
 use gtfs_feed::Feed;
 use gtfs_field::OutOfMemory;
@@ -37,18 +37,22 @@ pub struct DepartureRow {
     // times of many trips, which lie far apart.
     left: u32,
     sequence: u32,
+    // How many trips come before its own in an index, by which it finds what is kept of the trip: so
+    // the rows of a stop look at trips that lie one after the other. Outside an index it is 0.
+    rank: u32,
 }
 
 impl DepartureRow {
-    // This stop time of a trip at a position, both as the index keeps them.
-    pub(crate) fn new(trip: u32, row: u32, stop_time: &StopRow) -> DepartureRow
-        ensures { result ≡ noted_row trip row stop_time.now }
+    // This stop time of a trip of a rank at a position, all as the index keeps them.
+    pub(crate) fn new(trip: u32, rank: u32, row: u32, stop_time: &StopRow) -> DepartureRow
+        ensures { result ≡ noted_row trip rank row stop_time.now }
     {
         DepartureRow {
             trip,
             row,
             left: left(stop_time),
             sequence: stop_time.stop_sequence,
+            rank,
         }
     }
 
@@ -79,13 +83,20 @@ impl DepartureRow {
     {
         self.sequence
     }
+
+    // The rank of the trip in the index.
+    pub(crate) fn rank(&self) -> u32
+        ensures { result ≡ self.now.rank }
+    {
+        self.rank
+    }
 }
 
 /// The departure rows of a feed by stop,
 /// of which the lanes of any stop can be made without a look at the other trips.
 ///
-/// It keeps a vector for each stop, sixteen bytes for each stop time, eight for each stop or
-/// platform with a parent, and twenty for each trip.
+/// It keeps a vector for each stop, twenty bytes for each stop time, eight for each stop or
+/// platform with a parent, and sixteen for each trip.
 #[derive(Drop)]
 pub struct StopIndex<'a> {
     feed: &'a Feed,
@@ -124,11 +135,11 @@ impl<'a> StopIndex<'a> {
         ensures feed { IfOk result (λ index. index.feed ≡ feed.now) }
         ensures times { IfOk result (λ index. index.times ≡ times) }
     {
-        let (grouped, indexed) = trips_of(alloc, feed)?;
-        let grouped = by_group(grouped);
-        let rows = RowsByStop::build(alloc, feed, times, &grouped)?;
+        let (lists, starts) = stops_of(alloc, feed)?;
+        let trips = by_group(grouped_trips(alloc, feed, &lists, &starts)?);
+        let rows = RowsByStop::build(alloc, feed, times, lists.all(), &trips)?;
         let children = Children::build(alloc, feed)?;
-        let trips = indexed_trips(feed, &grouped, indexed)?;
+        let trips = indexed_trips(alloc, feed, &trips)?;
         Ok(StopIndex {
             feed,
             times,
@@ -186,9 +197,9 @@ impl<'a> StopIndex<'a> {
         self.children.of(stop, self.feed.stop_count())
     }
 
-    // What it keeps of each trip, by their numbers.
+    // What it keeps of each trip, by their ranks.
     pub(crate) fn trips(&self) -> &[IndexedTrip]
-        ensures { AreIndexedTrips self.now.feed result.now }
+        ensures { All (All (IsRanked self.now.feed result.now)) self.now.rows }
     {
         &self.trips
     }

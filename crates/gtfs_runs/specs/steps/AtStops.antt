@@ -25,7 +25,7 @@ at_stop lists s = slice_index_or lists s []
 
 -- a position of a trip, of whose stop time no more is said
 abbrev pub position_of : ℕ → ℕ → DepartureRow
-position_of t r = record { trip = t; row = r; left = 0; sequence = 0 }
+position_of t r = record { trip = t; row = r; left = 0; sequence = 0; rank = 0 }
 
 -- they are in their order, and all before a position of a trip
 pub record StandBefore (p : Parts) (t r : ℕ) (xs : List DepartureRow) : Type 0 where

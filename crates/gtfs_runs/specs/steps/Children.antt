@@ -14,8 +14,8 @@ use Rattle.gtfs_runs.specs.StopIndex.{AreDepartureRows}
 use Rattle.gtfs_runs.specs.declared.stop_index.DepartureRow.{DepartureRow}
 use Rattle.gtfs_runs.specs.declared.stop_index.children.Child.{Child}
 use Rattle.gtfs_runs.specs.declared.stop_index.indexed_trips.IndexedTrip.{IndexedTrip}
-use Rattle.gtfs_runs.specs.steps.Groups.{AreIndexedTrips}
 use Rattle.gtfs_runs.specs.steps.Noted.{IsNoted}
+use Rattle.gtfs_runs.specs.steps.Ranked.{IsRanked}
 
 -- the second is a stop or platform, other than the first, which is its parent
 abbrev pub is_child : Parts → ℕ → ℕ → Bool
@@ -44,4 +44,4 @@ pub record IsIndex (times : Times) (p : Parts) (index : List (List DepartureRow)
   pub rows : AreDepartureRows times p index
   pub noted : All (All (IsNoted (timed_parts times p))) index
   pub children : AreChildren p xs
-  pub trips : AreIndexedTrips p ts
+  pub trips : All (All (IsRanked p ts)) index

@@ -1,14 +1,14 @@
--- The group of a trip, its service and its stops: trips of one group share lanes. And numbers that are compared instead of groups.
-use Rattle.std.specs.Prelude.{◌≡◌, ◌<◌, ◌==◌, ℕ, All, List, cond, nat_lt, [], length, map, not, option_map, slice_get, slice_index_or, unwrap_or}
+-- The group of a trip, its service and its stops: trips of one group share lanes.
+use Rattle.std.specs.Prelude.{◌≡◌, ◌==◌, ◌+◌, ◌*◌, ◌^◌, ℕ, All, List, cond, nat_lt, [], map, option_map, slice_get, slice_index_or, unwrap_or}
+use Rattle.std.specs.List.{range_with_len}
 use Rattle.std.specs.Cmp.Lexicographic.{slice_cmp}
 use Rattle.std.specs.Ordering.{is_eq, is_lt, nat_cmp, on, then_cmp}
 use Rattle.std.specs.declared.cmp.Ordering.{Ordering}
-use Rattle.gtfs_rows.specs.Trips.{frequencies_by_trip, stop_rows_by_trip}
+use Rattle.gtfs_rows.specs.Trips.{stop_rows_by_trip}
+use Rattle.gtfs_rows.specs.declared.numbers.TripNo.{TripNo}
 use Rattle.gtfs_rows.specs.declared.parts.Parts.{Parts}
 use Rattle.gtfs_stop_times.specs.declared.stop_row.StopRow.{StopRow}
 use Rattle.gtfs_runs.specs.Counts.{tally}
-use Rattle.gtfs_runs.specs.declared.grouped_trip.GroupedTrip.{GroupedTrip}
-use Rattle.gtfs_runs.specs.declared.stop_index.indexed_trips.IndexedTrip.{IndexedTrip}
 use Rattle.gtfs_runs.specs.steps.Passings.{first_left}
 
 -- the number of a service, and those of stops
@@ -30,51 +30,41 @@ stops_in rows = map (λ row. row.stop_id.0) rows
 abbrev pub trip_group : Parts → ℕ → Group
 trip_group p t = (unwrap_or (option_map (λ u. u.service_id.0) (slice_get p.trips t)) 0, stops_in (slice_index_or (stop_rows_by_trip p) t []))
 
-abbrev pub group_of : GroupedTrip → Group
-group_of x = (x.service.0, x.stops.items)
+-- what contracts see of a trip by its group: its number, its group, and when it leaves its first stop
+pub record GroupedTripValue : Type 0 where
+  pub trip : TripNo
+  pub service : ℕ
+  pub stops : List ℕ
+  pub start : ℕ
+
+abbrev pub group_of : GroupedTripValue → Group
+group_of x = (x.service, x.stops)
+
+-- the first two stops as one number, with 0 for one that is not there
+abbrev pub lead_of : List ℕ → ℕ
+lead_of stops = slice_index_or stops 0 0 * 2 ^ 32 + slice_index_or stops 1 0
 
 -- how many of these have a lower group
-abbrev pub below : List GroupedTrip → Group → ℕ
+abbrev pub below : List GroupedTripValue → Group → ℕ
 below xs g = tally (λ x. is_lt (group_cmp (group_of x) g)) xs
 
 -- how many of these are of the group
-abbrev pub sharing : List GroupedTrip → Group → ℕ
+abbrev pub sharing : List GroupedTripValue → Group → ℕ
 sharing xs g = tally (λ x. is_eq (group_cmp (group_of x) g)) xs
 
--- ---- what an index keeps of trips
+-- ---- the trips of a feed
+
+-- how many trips with a number below this one have a lower group
+abbrev pub lower_trips : Parts → ℕ → Group → ℕ
+lower_trips p n g = tally (λ t. is_lt (group_cmp (trip_group p t) g)) (range_with_len 0 n)
 
 -- the trips with a number below this one, each once
-pub record AreOfTrips (p : Parts) (n : ℕ) (xs : List GroupedTrip) : Type 0 where
+pub record AreOfTrips (p : Parts) (n : ℕ) (xs : List GroupedTripValue) : Type 0 where
   pub once : (t : ℕ) → tally (λ x. t == x.trip.0) xs ≡ cond (nat_lt t n) 1 0
   pub groups : All (λ x. group_of x ≡ trip_group p x.trip.0) xs
   pub starts : All (λ x. x.start ≡ first_left (slice_index_or (stop_rows_by_trip p) x.trip.0 [])) xs
+  pub lower : (g : Group) → below xs g ≡ lower_trips p n g
 
 -- by group, then by when they leave the first stop, and then by number
-abbrev pub grouped_cmp : GroupedTrip → GroupedTrip → Ordering
+abbrev pub grouped_cmp : GroupedTripValue → GroupedTripValue → Ordering
 grouped_cmp = then_cmp (on group_of group_cmp) (then_cmp (on (λ x. x.start) nat_cmp) (on (λ x. x.trip.0) nat_cmp))
-
--- the numbers of the groups of the first ones compare like these groups
-abbrev pub HaveGroups : ℕ → List GroupedTrip → List IndexedTrip → Type 0
-HaveGroups n xs trips = (i j : ℕ) (d : GroupedTrip) (e : IndexedTrip) → i < n → j < n
-    → nat_cmp (slice_index_or trips (slice_index_or xs i d).trip.0 e).group (slice_index_or trips (slice_index_or xs j d).trip.0 e).group
-    ≡ group_cmp (group_of (slice_index_or xs i d)) (group_of (slice_index_or xs j d))
-
--- each has the service of its trip
-abbrev pub AreServing : Parts → List IndexedTrip → Type 0
-AreServing p trips = map (λ x. x.service) trips ≡ map (λ u. u.service_id.0) p.trips
-
--- each trip starts when it leaves its first stop
-abbrev pub AreStarted : Parts → List IndexedTrip → Type 0
-AreStarted p trips = map (λ x. x.start) trips ≡ map first_left (stop_rows_by_trip p)
-
--- each is marked that has frequencies
-abbrev pub AreMarked : Parts → List IndexedTrip → Type 0
-AreMarked p trips = map (λ x. x.has_frequencies) trips ≡ map (λ fs. not (length fs == 0)) (frequencies_by_trip p)
-
--- the trips of a feed by their numbers: the numbers of two groups compare like the groups
-pub record AreIndexedTrips (p : Parts) (trips : List IndexedTrip) : Type 0 where
-  pub groups : (t u : ℕ) (e : IndexedTrip) → t < length p.trips → u < length p.trips
-      → nat_cmp (slice_index_or trips t e).group (slice_index_or trips u e).group ≡ group_cmp (trip_group p t) (trip_group p u)
-  pub serving : AreServing p trips
-  pub starts : AreStarted p trips
-  pub marks : AreMarked p trips

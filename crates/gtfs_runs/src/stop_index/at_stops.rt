@@ -1,4 +1,4 @@
-ghost use Rattle.std.specs.Prelude.{◌≡◌, ◌<◌, ◌+◌, ◌&&◌, ◌==◌, ℕ, All, AllPairs, IfOk, List, OnOk, Some, cond, length, map, slice_get};
+ghost use Rattle.std.specs.Prelude.{◌≡◌, ◌<◌, ◌+◌, ◌&&◌, ◌==◌, ℕ, Bool, true, All, AllPairs, IfOk, List, OnOk, Some, cond, length, map, slice_get};
 ghost use Rattle.std.specs.List.Sorted.{IsSorted};
 ghost use Rattle.gtfs_columns.specs.Values.{if_there};
 ghost use Rattle.gtfs_rows.specs.Order.{Ascends};
@@ -11,6 +11,7 @@ ghost use Rattle.gtfs_runs.specs.StopIndex.{departure_row_cmp, is_this_row};
 ghost use Rattle.gtfs_runs.specs.steps.AtStops.{StandBefore, at_stop, departs_of, leaves_stop};
 ghost use Rattle.gtfs_runs.specs.steps.Groups.{AreOfTrips, grouped_cmp};
 ghost use Rattle.gtfs_runs.specs.steps.Noted.{IsNoted, noted_row};
+ghost use Rattle.gtfs_runs.specs.steps.Ranked.{IsOfRank};
 ghost use Rattle.gtfs_times.specs.TimedRows.{timed_parts};
 
 use crate::departure_row::is_departure_row;
@@ -24,11 +25,13 @@ use gtfs_times::{Times, filled, is_to_fill};
 use std::alloc::Global;
 
 // The departure rows at each stop of a feed, of its trips in the order in which they then stand.
+// The stops are those of all stop times.
 pub(crate) fn at_stops(
     alloc: Global,
     feed: &Feed,
     times: Times,
-    trips: &[GroupedTrip],
+    stops: &[u32],
+    trips: &[GroupedTrip<'_>],
 ) -> Result<Vec<Vec<DepartureRow>>, OutOfMemory>
     requires trips { AreOfTrips feed.now (length feed.now.trips) trips.now }
     requires in_order { IsSorted grouped_cmp trips.now }
@@ -40,20 +43,24 @@ pub(crate) fn at_stops(
         All (Ascends (departure_row_cmp feed.now)) (map (λ x. x.items) found.items)) }
     ensures noted { IfOk result (λ found.
         All (All (IsNoted (timed_parts times feed.now))) (map (λ x. x.items) found.items)) }
+    ensures ranked { IfOk result (λ found.
+        All (All (IsOfRank trips.now)) (map (λ x. x.items) found.items)) }
 {
     feed.soundness();
-    let mut found = rooms(alloc, feed, trips)?;
-    for trip in trips {
-        add_trip(alloc, feed, trip.trip, times, &mut found)?;
+    let mut found = rooms(alloc, feed, stops)?;
+    for rank in 0..trips.len() {
+        let trip = trips[rank].trip();
+        add_trip(alloc, feed, trip, small_number(rank)?, times, &mut found)?;
     }
     Ok(found)
 }
 
-// Adds the departure rows of a trip.
+// Adds the departure rows of a trip of a rank.
 fn add_trip(
     alloc: Global,
     feed: &Feed,
     trip: TripNo,
+    rank: u32,
     times: Times,
     found: &mut Vec<Vec<DepartureRow>>,
 ) -> Result<(), OutOfMemory>
@@ -70,19 +77,23 @@ fn add_trip(
     ensures noted { OnOk result (
         All (All (IsNoted (timed_parts times feed.now))) (map (λ x. x.items) found.old.items)
         → All (All (IsNoted (timed_parts times feed.now))) (map (λ x. x.items) found.new.items)) }
+    ensures ranked { OnOk result ((q : ℕ → ℕ → Bool) → q trip.0 rank ≡ true
+        → All (All (λ x. q x.trip x.rank ≡ true)) (map (λ x. x.items) found.old.items)
+        → All (All (λ x. q x.trip x.rank ≡ true)) (map (λ x. x.items) found.new.items)) }
 {
     feed.soundness();
     let rows = feed.trip_rows(trip);
     if is_to_fill(rows, times) {
-        return add_rows(trip, &filled(alloc, rows)?, found);
+        return add_rows(trip, rank, &filled(alloc, rows)?, found);
     }
-    add_rows(trip, rows, found)
+    add_rows(trip, rank, rows, found)
 }
 
 // Adds the departure rows among these stop times, which are the trip's or these with their times
 // filled.
 fn add_rows(
     trip: TripNo,
+    rank: u32,
     rows: &[StopRow],
     found: &mut Vec<Vec<DepartureRow>>,
 ) -> Result<(), OutOfMemory>
@@ -101,9 +112,12 @@ fn add_rows(
         → slice_get (stop_rows_by_trip p) trip.0 ≡ Some rows.now
         → All (All (IsNoted p)) (map (λ x. x.items) found.old.items)
         → All (All (IsNoted p)) (map (λ x. x.items) found.new.items)) }
+    ensures ranked { OnOk result ((q : ℕ → ℕ → Bool) → q trip.0 rank ≡ true
+        → All (All (λ x. q x.trip x.rank ≡ true)) (map (λ x. x.items) found.old.items)
+        → All (All (λ x. q x.trip x.rank ≡ true)) (map (λ x. x.items) found.new.items)) }
 {
     for position in 0..rows.len() {
-        add_row(trip, rows, position, found)?;
+        add_row(trip, rank, rows, position, found)?;
     }
     Ok(())
 }
@@ -111,6 +125,7 @@ fn add_rows(
 // Adds the stop time of this position, if it is a departure row.
 fn add_row(
     trip: TripNo,
+    rank: u32,
     rows: &[StopRow],
     position: usize,
     found: &mut Vec<Vec<DepartureRow>>,
@@ -131,25 +146,30 @@ fn add_row(
         → slice_get (stop_rows_by_trip p) trip.0 ≡ Some rows.now
         → All (All (IsNoted p)) (map (λ x. x.items) found.old.items)
         → All (All (IsNoted p)) (map (λ x. x.items) found.new.items)) }
+    ensures ranked { OnOk result ((q : ℕ → ℕ → Bool) → q trip.0 rank ≡ true
+        → All (All (λ x. q x.trip x.rank ≡ true)) (map (λ x. x.items) found.old.items)
+        → All (All (λ x. q x.trip x.rank ≡ true)) (map (λ x. x.items) found.new.items)) }
 {
     if !is_departure_row(rows, position) {
         return Ok(());
     }
     let stop_time = &rows[position];
-    let row = row_at(trip, position, stop_time)?;
+    let row = row_at(trip, rank, position, stop_time)?;
     found[stop_time.stop_id.0].push(row)?;
     Ok(())
 }
 
-// This stop time of a trip at a position.
+// This stop time of a trip of a rank at a position.
 pub(crate) fn row_at(
     trip: TripNo,
+    rank: u32,
     position: usize,
     stop_time: &StopRow,
 ) -> Result<DepartureRow, OutOfMemory>
-    ensures { IfOk result (λ row. row ≡ noted_row trip.0 position stop_time.now) }
+    ensures { IfOk result (λ row. row ≡ noted_row trip.0 rank position stop_time.now) }
 {
-    Ok(DepartureRow::new(small_number(trip.0)?, small_number(position)?, stop_time))
+    let trip = small_number(trip.0)?;
+    Ok(DepartureRow::new(trip, rank, small_number(position)?, stop_time))
 }
 
 // A number as the index keeps it. No number is left for more than 4,294,967,296 stops, services,

@@ -1,29 +1,26 @@
-ghost use Rattle.std.specs.Prelude.{◌≡◌, ◌≤◌, ◌<◌, ◌-◌, ◌==◌, ℕ, All, IfOk, List, Some, [], length, map, not, slice_get, slice_index_or};
+ghost use Rattle.std.specs.Prelude.{◌≡◌, ◌<◌, ◌-◌, ◌==◌, IfOk, List, Some, [], length, map, not, slice_get, slice_index_or};
 ghost use Rattle.std.specs.List.Sorted.{IsSorted};
-ghost use Rattle.std.specs.Ordering.{is_lt};
 ghost use Rattle.gtfs_rows.specs.Trips.{frequencies_by_trip, stop_rows_by_trip};
 ghost use Rattle.gtfs_rows.specs.declared.frequency.Frequency.{Frequency};
-ghost use Rattle.gtfs_runs.specs.Counts.{tally};
 ghost use Rattle.gtfs_runs.specs.declared.stop_index.indexed_trips.IndexedTrip.{IndexedTrip as IndexedValue};
-ghost use Rattle.gtfs_runs.specs.steps.Groups.{AreIndexedTrips, AreMarked, AreOfTrips, AreServing, AreStarted, HaveGroups, group_cmp, group_of, trip_group};
+ghost use Rattle.gtfs_runs.specs.steps.Groups.{AreOfTrips, GroupedTripValue, below, group_cmp, group_of, stops_in, trip_group};
 ghost use Rattle.gtfs_runs.specs.steps.Passings.{first_left};
+ghost use Rattle.gtfs_runs.specs.steps.Ranked.{AreIndexedTrips};
 
 use crate::departure_row::trip_start;
 use crate::grouped_trip::{GroupedTrip, group_order};
 use crate::stop_index::at_stops::small_number;
+use crate::stop_lists::StopLists;
 use gtfs_feed::Feed;
 use gtfs_field::OutOfMemory;
 use gtfs_rows::TripNo;
 use std::alloc::Global;
 
-// What the index keeps of a trip.
+// What is kept of a trip, so that its rows need not look at it.
 #[derive(Clone, Copy)]
 pub(crate) struct IndexedTrip {
-    // The number of its group, by which groups are compared.
+    // The number of its group, by which groups are compared, 0 until it is known.
     pub(crate) group: u32,
-    // How many trips come before it by group and start, 0 until it is known. Where a vehicle does
-    // not overtake another of its group, their departures from a stop stand in this order.
-    pub(crate) rank: u32,
     pub(crate) service: u32,
     // The second at which it leaves its first stop.
     pub(crate) start: u32,
@@ -45,7 +42,6 @@ impl IndexedTrip {
     {
         Ok(IndexedTrip {
             group: 0,
-            rank: 0,
             service: small_number(feed.trip_by_number(trip).service_id.0)?,
             start: trip_start(feed.trip_rows(trip)),
             has_frequencies: !feed.trip_frequencies(trip).is_empty(),
@@ -53,77 +49,103 @@ impl IndexedTrip {
     }
 }
 
-// That of a trip, of those of a feed.
-pub(crate) fn trip_at(trips: &[IndexedTrip], trip: TripNo) -> IndexedTrip
-    requires { trip.0 < length trips.now }
-    ensures { (e : IndexedValue) → result ≡ slice_index_or trips.now trip.0 e }
+// That of a rank, of those of a feed.
+pub(crate) fn trip_at(trips: &[IndexedTrip], rank: u32) -> IndexedTrip
+    requires { rank < length trips.now }
+    ensures { (e : IndexedValue) → result ≡ slice_index_or trips.now rank e }
 {
-    trips[trip.0]
+    trips[rank as usize]
 }
 
-// The trips of a feed with the numbers of their groups, by their own numbers, of the same sorted by
-// group.
-pub(crate) fn indexed_trips(
-    feed: &Feed,
-    sorted: &[GroupedTrip],
-    indexed: Vec<IndexedTrip>,
-) -> Result<Vec<IndexedTrip>, OutOfMemory>
-    requires trips { AreOfTrips feed.now (length feed.now.trips) sorted.now }
-    requires in_order { IsSorted (λ x y. group_cmp (group_of x) (group_of y)) sorted.now }
-    requires serving { AreServing feed.now indexed.items }
-    requires started { AreStarted feed.now indexed.items }
-    requires marked { AreMarked feed.now indexed.items }
-    ensures { IfOk result (λ trips. AreIndexedTrips feed.now trips.items) }
+// The stops of the trips of a feed, by their numbers, and when they leave the first.
+pub(crate) fn stops_of(alloc: Global, feed: &Feed) -> Result<(StopLists, Vec<u32>), OutOfMemory>
+    ensures stops { IfOk result (λ both. both.0 ≡ map stops_in (stop_rows_by_trip feed.now)) }
+    ensures starts { IfOk result (λ both.
+        both.1.items ≡ map first_left (stop_rows_by_trip feed.now)) }
 {
     feed.soundness();
-    with_groups(sorted, indexed)
+    let count = feed.trip_count();
+    let mut lists = StopLists::with_room(alloc, count, feed.parts().stop_times.len())?;
+    let mut starts = Vec::with_capacity(alloc, count)?;
+    for number in 0..count {
+        let rows = feed.trip_rows(TripNo(number));
+        lists.push(rows)?;
+        starts.push(trip_start(rows))?;
+    }
+    Ok((lists, starts))
 }
 
-// The trips of a feed, by their numbers, and the same before their groups are numbered.
-pub(crate) fn trips_of(
+// The trips of a feed by their groups. They have these stops, and leave the first at these seconds.
+pub(crate) fn grouped_trips<'a>(
     alloc: Global,
     feed: &Feed,
-) -> Result<(Vec<GroupedTrip>, Vec<IndexedTrip>), OutOfMemory>
-    ensures trips { IfOk result (λ both. AreOfTrips feed.now (length feed.now.trips) both.0.items) }
-    ensures serving { IfOk result (λ both. AreServing feed.now both.1.items) }
-    ensures started { IfOk result (λ both. AreStarted feed.now both.1.items) }
-    ensures marked { IfOk result (λ both. AreMarked feed.now both.1.items) }
+    lists: &'a StopLists,
+    starts: &[u32],
+) -> Result<Vec<GroupedTrip<'a>>, OutOfMemory>
+    requires stops { lists.now ≡ map stops_in (stop_rows_by_trip feed.now) }
+    requires starts { starts.now ≡ map first_left (stop_rows_by_trip feed.now) }
+    ensures { IfOk result (λ trips. AreOfTrips feed.now (length feed.now.trips) trips.items) }
 {
     feed.soundness();
     let mut trips = Vec::with_capacity(alloc, feed.trip_count())?;
-    let mut indexed = Vec::with_capacity(alloc, feed.trip_count())?;
     for number in 0..feed.trip_count() {
         let trip = TripNo(number);
-        trips.push(GroupedTrip::of(alloc, feed, trip)?)?;
-        indexed.push(IndexedTrip::of(feed, trip)?)?;
-    }
-    Ok((trips, indexed))
-}
-
-// The trips with the numbers of their groups, of trips that are sorted by group: how many come
-// before the first of the group.
-fn with_groups(
-    sorted: &[GroupedTrip],
-    mut trips: Vec<IndexedTrip>,
-) -> Result<Vec<IndexedTrip>, OutOfMemory>
-    requires in_order { IsSorted (λ x y. group_cmp (group_of x) (group_of y)) sorted.now }
-    requires within { All (λ x. x.trip.0 < length trips.items) sorted.now }
-    requires once { (t : ℕ) → tally (λ x. t == x.trip.0) sorted.now ≤ 1 }
-    ensures kept { IfOk result (λ found.
-        (map (λ x. x.service) found.items ≡ map (λ x. x.service) trips.items)
-        × (map (λ x. x.start) found.items ≡ map (λ x. x.start) trips.items)
-        × (map (λ x. x.has_frequencies) found.items ≡ map (λ x. x.has_frequencies) trips.items)) }
-    ensures groups { IfOk result (λ found. HaveGroups (length sorted.now) sorted.now found.items) }
-{
-    let mut group = 0;
-    for n in 0..sorted.len() {
-        let rank = small_number(n)?;
-        if n > 0 && group_order(&sorted[n - 1], &sorted[n]).is_lt() {
-            group = rank;
-        }
-        let trip = &mut trips[sorted[n].trip.0];
-        trip.group = group;
-        trip.rank = rank;
+        let service = small_number(feed.trip_by_number(trip).service_id.0)?;
+        trips.push(GroupedTrip::new(trip, service, starts[number], lists.get(number)))?;
     }
     Ok(trips)
+}
+
+// What an index keeps of the trips of a feed, which stand in its order.
+pub(crate) fn indexed_trips(
+    alloc: Global,
+    feed: &Feed,
+    sorted: &[GroupedTrip<'_>],
+) -> Result<Vec<IndexedTrip>, OutOfMemory>
+    requires trips { AreOfTrips feed.now (length feed.now.trips) sorted.now }
+    requires in_order { IsSorted (λ x y. group_cmp (group_of x) (group_of y)) sorted.now }
+    ensures { IfOk result (λ trips. AreIndexedTrips feed.now sorted.now trips.items) }
+{
+    feed.soundness();
+    let mut trips = Vec::with_capacity(alloc, sorted.len())?;
+    let mut group = 0;
+    for rank in 0..sorted.len() {
+        group = group_at(sorted, rank, group)?;
+        trips.push(indexed_trip(feed, &sorted[rank], group))?;
+    }
+    Ok(trips)
+}
+
+// What an index keeps of a trip whose group has this number.
+fn indexed_trip(feed: &Feed, trip: &GroupedTrip<'_>, group: u32) -> IndexedTrip
+    requires { trip.now.trip.0 < length feed.now.trips }
+    ensures group { result.group ≡ group }
+    ensures service { result.service ≡ trip.now.service }
+    ensures start { result.start ≡ trip.now.start }
+    ensures marked { (fs : List Frequency)
+        → slice_get (frequencies_by_trip feed.now) trip.now.trip.0 ≡ Some fs
+        → result.has_frequencies ≡ not (length fs == 0) }
+{
+    IndexedTrip {
+        group,
+        service: trip.service(),
+        start: trip.start(),
+        has_frequencies: !feed.trip_frequencies(trip.trip()).is_empty(),
+    }
+}
+
+// The number of the group of the trip of a rank: how many trips come before the first of the group.
+// That of the trip before it is known.
+fn group_at(sorted: &[GroupedTrip<'_>], rank: usize, before: u32) -> Result<u32, OutOfMemory>
+    requires in_order { IsSorted (λ x y. group_cmp (group_of x) (group_of y)) sorted.now }
+    requires within { rank < length sorted.now }
+    requires before { (d : GroupedTripValue) → 0 < rank
+        → before ≡ below sorted.now (group_of (slice_index_or sorted.now (rank - 1) d)) }
+    ensures { IfOk result (λ group. (d : GroupedTripValue)
+        → group ≡ below sorted.now (group_of (slice_index_or sorted.now rank d))) }
+{
+    if rank > 0 && !group_order(&sorted[rank - 1], &sorted[rank]).is_lt() {
+        return Ok(before);
+    }
+    small_number(rank)
 }

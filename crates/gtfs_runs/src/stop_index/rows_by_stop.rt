@@ -3,6 +3,7 @@ ghost use Rattle.std.specs.List.Sorted.{IsSorted};
 ghost use Rattle.gtfs_runs.specs.StopIndex.{AreDepartureRows};
 ghost use Rattle.gtfs_runs.specs.steps.Groups.{AreOfTrips, grouped_cmp};
 ghost use Rattle.gtfs_runs.specs.steps.Noted.{IsNoted};
+ghost use Rattle.gtfs_runs.specs.steps.Ranked.{IsOfRank};
 ghost use Rattle.gtfs_times.specs.TimedRows.{timed_parts};
 
 use crate::grouped_trip::GroupedTrip;
@@ -33,19 +34,22 @@ impl Model for RowsByStop {
 
 impl RowsByStop {
     // Those of a feed under a choice of times, of its trips in the order in which they then stand.
+    // The stops are those of all stop times.
     pub(crate) fn build(
         alloc: Global,
         feed: &Feed,
         times: Times,
-        trips: &[GroupedTrip],
+        stops: &[u32],
+        trips: &[GroupedTrip<'_>],
     ) -> Result<RowsByStop, OutOfMemory>
         requires trips { AreOfTrips feed.now (length feed.now.trips) trips.now }
         requires in_order { IsSorted grouped_cmp trips.now }
         ensures rows { IfOk result (λ rows. AreDepartureRows times feed.now rows) }
         ensures noted { IfOk result (λ rows. All (All (IsNoted (timed_parts times feed.now))) rows) }
+        ensures ranked { IfOk result (λ rows. All (All (IsOfRank trips.now)) rows) }
     {
         feed.soundness();
-        let at_stops = at_stops(alloc, feed, times, trips)?;
+        let at_stops = at_stops(alloc, feed, times, stops, trips)?;
         Ok(RowsByStop { at_stops })
     }
 

@@ -102,7 +102,9 @@ pub(crate) fn add_row(
     let trip = row.trip();
     let passing = Passing::of(row, indexed.start);
     if !indexed.has_frequencies {
-        found.listed.push(Listed::of(trip, indexed, &passing)?)?;
+        found
+            .listed
+            .push(Listed::of(trip, row.rank(), indexed, &passing)?)?;
         return Ok(());
     }
     let service = ServiceNo(indexed.service as usize);

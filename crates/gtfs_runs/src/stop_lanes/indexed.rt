@@ -1,12 +1,11 @@
-ghost use Rattle.std.specs.Prelude.{◌≡◌, ◌<◌, All, IfOk, OnOk, length, map, slice_index_or};
+ghost use Rattle.std.specs.Prelude.{◌≡◌, ◌<◌, All, IfOk, OnOk, length, map};
 ghost use Rattle.std.specs.List.{flat_map};
 ghost use Rattle.gtfs_runs.specs.StopLanes.{period_value};
-ghost use Rattle.gtfs_runs.specs.declared.stop_index.indexed_trips.IndexedTrip.{IndexedTrip as TripValue};
 ghost use Rattle.gtfs_runs.specs.steps.AtStops.{at_stop};
 ghost use Rattle.gtfs_runs.specs.steps.Courses.{AreServed, stopping_of};
 ghost use Rattle.gtfs_runs.specs.steps.Finds.{AreFound};
-ghost use Rattle.gtfs_runs.specs.steps.Groups.{AreIndexedTrips};
 ghost use Rattle.gtfs_runs.specs.steps.Numbers.{AreNumbered};
+ghost use Rattle.gtfs_runs.specs.steps.Ranked.{IsRanked, group_number};
 ghost use Rattle.gtfs_runs.specs.steps.RowFinds.{AreAdded, IsInside};
 ghost use Rattle.gtfs_times.specs.TimedRows.{timed_parts};
 
@@ -57,14 +56,15 @@ fn add_children(
     requires stops { All (λ x. x.stop < length index.now.feed.stops) children.now }
     requires rows { All (IsInside index.now.feed)
         (flat_map (λ x. at_stop index.now.rows x.stop) children.now) }
-    requires trips { AreIndexedTrips index.now.feed trips.now }
+    requires ranked { All (IsRanked index.now.feed trips.now)
+        (flat_map (λ x. at_stop index.now.rows x.stop) children.now) }
     ensures added { OnOk result (AreAdded index.now.feed
         (flat_map (λ x. at_stop index.now.rows x.stop) children.now)
         found.old.listed.items found.new.listed.items
         (map period_value found.old.periods.items) (map period_value found.new.periods.items)) }
-    ensures groups { OnOk result ((e : TripValue)
-        → All (λ x. (slice_index_or trips.now x.trip e).group ≡ x.group) found.old.listed.items
-        → All (λ x. (slice_index_or trips.now x.trip e).group ≡ x.group) found.new.listed.items) }
+    ensures groups { OnOk result (
+        All (λ x. group_number index.now.feed x.trip ≡ x.group) found.old.listed.items
+        → All (λ x. group_number index.now.feed x.trip ≡ x.group) found.new.listed.items) }
 {
     for child in children {
         add_rows(index.feed(), trips, index.rows(child.stop()), found)?;
@@ -79,18 +79,18 @@ fn add_rows(
     rows: &[DepartureRow],
     found: &mut Found,
 ) -> Result<(), OutOfMemory>
-    requires trips { AreIndexedTrips feed.now trips.now }
+    requires ranked { All (IsRanked feed.now trips.now) rows.now }
     requires rows { All (IsInside feed.now) rows.now }
     ensures added { OnOk result (AreAdded feed.now rows.now
         found.old.listed.items found.new.listed.items
         (map period_value found.old.periods.items) (map period_value found.new.periods.items)) }
-    ensures groups { OnOk result ((e : TripValue)
-        → All (λ x. (slice_index_or trips.now x.trip e).group ≡ x.group) found.old.listed.items
-        → All (λ x. (slice_index_or trips.now x.trip e).group ≡ x.group) found.new.listed.items) }
+    ensures groups { OnOk result (
+        All (λ x. group_number feed.now x.trip ≡ x.group) found.old.listed.items
+        → All (λ x. group_number feed.now x.trip ≡ x.group) found.new.listed.items) }
 {
     feed.soundness();
     for row in rows {
-        add_row(feed, trip_at(trips, row.trip()), row, found)?;
+        add_row(feed, trip_at(trips, row.rank()), row, found)?;
     }
     Ok(())
 }

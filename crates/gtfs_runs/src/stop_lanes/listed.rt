@@ -35,9 +35,10 @@ pub(crate) struct Listed {
 }
 
 impl Listed {
-    // That of a trip at one of its stop times.
+    // That of a trip of a rank at one of its stop times.
     pub(crate) fn of(
         trip: TripNo,
+        rank: u32,
         indexed: IndexedTrip,
         passing: &Passing,
     ) -> Result<Listed, OutOfMemory>
@@ -56,7 +57,7 @@ impl Listed {
             run: indexed.start,
             seq: passing.seq,
             service: indexed.service,
-            rank: indexed.rank,
+            rank,
         })
     }
 

@@ -1,16 +1,20 @@
-ghost use Rattle.std.specs.Prelude.{◌≡◌, ◌≤◌, ◌<◌, ◌-◌, ℕ, true, All, IfOk, length, map, slice_index_or};
+ghost use Rattle.std.specs.Prelude.{◌≡◌, ◌≤◌, ◌<◌, ◌-◌, ◌==◌, ℕ, true, All, IfOk, length, map, slice_index_or};
 ghost use Rattle.std.specs.List.Sorted.{IsSorted};
 ghost use Rattle.gtfs_rows.specs.declared.parts.Parts.{Parts};
+ghost use Rattle.gtfs_runs.specs.Counts.{tally};
 ghost use Rattle.gtfs_runs.specs.declared.stop_lanes.listed.Listed.{Listed as ListedValue};
 ghost use Rattle.gtfs_runs.specs.steps.Courses.{AreServed, stopping_of};
-ghost use Rattle.gtfs_runs.specs.steps.Groups.{below, group_cmp, group_of, sharing, trip_group};
+ghost use Rattle.gtfs_runs.specs.steps.Groups.{below, group_cmp, group_of, trip_group};
 ghost use Rattle.gtfs_runs.specs.steps.Numbers.{AreNumbered};
 
+use crate::departure_row::trip_start;
 use crate::grouped_trip::{GroupedTrip, by_group, group_order};
 use crate::stop_index::small_number;
 use crate::stop_lanes::listed::Listed;
+use crate::stop_lists::StopLists;
 use gtfs_feed::Feed;
 use gtfs_field::OutOfMemory;
+use gtfs_rows::TripNo;
 use std::alloc::Global;
 
 // Numbers the groups of trips: how many of the trips that pass the place have lower ones.
@@ -28,23 +32,68 @@ pub(crate) fn numbered(
     ensures services { IfOk result (λ found. (p : Parts) → AreServed p listed.items
         → AreServed p found.items) }
 {
-    let trips = by_group(trips_of(alloc, feed, &listed)?);
+    let (trips, lists) = trips_of(alloc, feed, &listed)?;
+    let trips = by_group(grouped_trips(alloc, feed, &trips, &lists)?);
     with_groups(alloc, feed, &trips, listed)
 }
 
-// The trips of these events, where the events of a trip stand together.
-fn trips_of(alloc: Global, feed: &Feed, listed: &[Listed]) -> Result<Vec<GroupedTrip>, OutOfMemory>
+// The trips of these events, where the events of a trip stand together, and their stops.
+fn trips_of(
+    alloc: Global,
+    feed: &Feed,
+    listed: &[Listed],
+) -> Result<(Vec<TripNo>, StopLists), OutOfMemory>
     requires { All (λ x. x.trip < length feed.now.trips) listed.now }
-    ensures { IfOk result (λ trips. All (λ x. 1 ≤ sharing trips.items (trip_group feed.now x.trip))
-        listed.now) }
+    ensures known { IfOk result (λ both. All (λ t. t.0 < length feed.now.trips) both.0.items) }
+    ensures all { IfOk result (λ both.
+        All (λ x. 1 ≤ tally (λ t. x.trip == t.0) both.0.items) listed.now) }
+    ensures stops { IfOk result (λ both.
+        both.1 ≡ map (λ t. (trip_group feed.now t.0).1) both.0.items) }
 {
     let mut trips = Vec::new(alloc);
+    let mut lists = StopLists::with_room(alloc, 0, 0)?;
     for n in 0..listed.len() {
         if !goes_on(listed, n) {
-            trips.push(GroupedTrip::of(alloc, feed, listed[n].trip())?)?;
+            let trip = listed[n].trip();
+            trips.push(trip)?;
+            lists.push(feed.trip_rows(trip))?;
         }
     }
-    Ok(trips)
+    Ok((trips, lists))
+}
+
+// The trips of these numbers, which have these stops, by their groups.
+fn grouped_trips<'a>(
+    alloc: Global,
+    feed: &Feed,
+    trips: &[TripNo],
+    lists: &'a StopLists,
+) -> Result<Vec<GroupedTrip<'a>>, OutOfMemory>
+    requires known { All (λ t. t.0 < length feed.now.trips) trips.now }
+    requires stops { lists.now ≡ map (λ t. (trip_group feed.now t.0).1) trips.now }
+    ensures { IfOk result (λ grouped. map group_of grouped.items
+        ≡ map (λ t. trip_group feed.now t.0) trips.now) }
+{
+    let mut grouped = Vec::with_capacity(alloc, trips.len())?;
+    for n in 0..trips.len() {
+        grouped.push(grouped_trip(feed, trips[n], lists.get(n))?)?;
+    }
+    Ok(grouped)
+}
+
+// A trip, which has these stops, by its group.
+fn grouped_trip<'a>(
+    feed: &Feed,
+    trip: TripNo,
+    stops: &'a [u32],
+) -> Result<GroupedTrip<'a>, OutOfMemory>
+    requires known { trip.0 < length feed.now.trips }
+    requires stops { stops.now ≡ (trip_group feed.now trip.0).1 }
+    ensures { IfOk result (λ grouped. group_of grouped ≡ trip_group feed.now trip.0) }
+{
+    let service = small_number(feed.trip_by_number(trip).service_id.0)?;
+    let start = trip_start(feed.trip_rows(trip));
+    Ok(GroupedTrip::new(trip, service, start, stops))
 }
 
 // Whether the event at this index is of the trip of the one before it.
@@ -61,7 +110,7 @@ fn goes_on(listed: &[Listed], n: usize) -> bool
 fn with_groups(
     alloc: Global,
     feed: &Feed,
-    trips: &[GroupedTrip],
+    trips: &[GroupedTrip<'_>],
     mut listed: Vec<Listed>,
 ) -> Result<Vec<Listed>, OutOfMemory>
     requires in_order { IsSorted (λ x y. group_cmp (group_of x) (group_of y)) trips.now }
@@ -84,7 +133,7 @@ fn with_groups(
 fn group_at(
     alloc: Global,
     feed: &Feed,
-    trips: &[GroupedTrip],
+    trips: &[GroupedTrip<'_>],
     listed: &[Listed],
     n: usize,
 ) -> Result<u32, OutOfMemory>
@@ -99,6 +148,9 @@ fn group_at(
     if goes_on(listed, n) {
         return Ok(listed[n - 1].group);
     }
-    let trip = GroupedTrip::of(alloc, feed, listed[n].trip())?;
+    let trip = listed[n].trip();
+    let mut lists = StopLists::with_room(alloc, 1, 0)?;
+    lists.push(feed.trip_rows(trip))?;
+    let trip = grouped_trip(feed, trip, lists.get(0))?;
     small_number(trips.partition_point(|other| group_order(other, &trip).is_lt()))
 }

@@ -99,7 +99,7 @@ fn add_stop_times(
 {
     for position in 0..rows.len() {
         if leaves_place(place, rows, position) {
-            found.push(row_at(trip, position, &rows[position])?)?;
+            found.push(row_at(trip, 0, position, &rows[position])?)?;
         }
     }
     Ok(())

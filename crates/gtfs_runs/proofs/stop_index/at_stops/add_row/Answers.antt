@@ -1,9 +1,11 @@
-use Rattle.std.proofs.Common.{◌≡◌, ◌<◌, ◌∙◌, ◌++◌, [], ◌∷◌, get_or, length, map, refl, set, sym, ap, subst}
+use Rattle.std.proofs.Common.{◌≡◌, ◌<◌, ◌∙◌, ◌++◌, [], ◌∷◌, get_or, length, map, refl, set, true, sym, ap, subst}
 use Rattle.std.proofs.lemmas.List.{length-map, length-set}
 use Rattle.gtfs_field.proofs.ListFacts.{some_of}
 use Rattle.gtfs_stop_times.specs.declared.stop_row.StopRow.{StopRow}
 use Rattle.gtfs_runs.specs.steps.AtStops.{at_stop}
-use Rattle.gtfs_runs.proofs.AtStopFacts.{noted_here, noted_last, pushed_at, row_added, row_last, row_later, row_passed}
+use Rattle.gtfs_runs.specs.declared.stop_index.DepartureRow.{DepartureRow}
+use Rattle.gtfs_runs.specs.steps.Noted.{IsNoted}
+use Rattle.gtfs_runs.proofs.AtStopFacts.{noted_here, one_more, pushed_at, row_added, row_last, row_later, row_passed}
 use Rattle.gtfs_runs.proofs.stop_index.at_stops.add_row.Goals as goal
 
 pub returns-then-not-is_departure_row : goal.returns-then-not-is_departure_row
@@ -17,6 +19,7 @@ returns-then-not-is_departure_row c =
           (sym (c.is_departure_row.ensures p u fs d) ∙ c.if-not-is_departure_row.true) s t r;
       order = λ p. row_later p c.args.trip.0 c.args.position _;
       noted = λ p at were. were;
+      ranked = λ q is were. were;
     }
 
 pub returns : goal.returns
@@ -35,8 +38,9 @@ returns c =
     record {
       length = length-set lists d.stop_id.0 c.push.new.self;
       told = λ s t r p u fs.
-          row_added p u rows fs c.args.trip.0 c.args.position d d _ _ row c.requires.within
+          row_added p u rows fs c.args.trip.0 c.args.rank c.args.position d d _ _ row c.requires.within
           (sym (c.is_departure_row.ensures p u fs d) ∙ c.if-not-is_departure_row.false) c.in_ok-row.ensures inside pushed s t r;
-      order = λ p. row_last p c.args.trip.0 c.args.position stop d row _ _ c.in_ok-row.ensures inside pushed;
-      noted = λ p at. noted_last p stop row _ _ (noted_here p c.args.trip.0 c.args.position rows d row at c.requires.within c.index-rows-position.is c.in_ok-row.ensures) inside pushed;
+      order = λ p. row_last p c.args.trip.0 c.args.position stop c.args.rank d row _ _ c.in_ok-row.ensures inside pushed;
+      noted = λ p at. one_more (IsNoted p) stop row _ _ (noted_here p c.args.trip.0 c.args.rank c.args.position rows d row at c.requires.within c.index-rows-position.is c.in_ok-row.ensures) inside pushed;
+      ranked = λ q is. one_more (λ x. q x.trip x.rank ≡ true) stop row _ _ (ap (λ (x : DepartureRow). q x.trip x.rank) c.in_ok-row.ensures ∙ is) inside pushed;
     }

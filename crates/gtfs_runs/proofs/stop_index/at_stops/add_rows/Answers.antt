@@ -20,6 +20,7 @@ loop-position-init c = record {
       no_rows (t == c.args.trip.0) (if_there (slice_get c.args.rows.now r) (leaves_stop p u c.args.rows.now fs s)) r (tally (is_this_row t r) (at_stop (map (λ x. x.items) c.args.found.now.items) s));
   order = λ p was. was;
   noted = λ p at were. were;
+  ranked = λ q is were. were;
 }
 
 pub loop-position-preserved : goal.loop-position-preserved
@@ -30,6 +31,7 @@ loop-position-preserved c = record {
       (c.loop-position.invariant.told s t r p u fs) (c.in_ok-add_row.ensures.told s t r p u fs);
   order = λ p was. c.in_ok-add_row.ensures.order p (c.loop-position.invariant.order p was);
   noted = λ p at were. c.in_ok-add_row.ensures.noted p at (c.loop-position.invariant.noted p at were);
+  ranked = λ q is were. c.in_ok-add_row.ensures.ranked q is (c.loop-position.invariant.ranked q is were);
 }
 
 pub returns : goal.returns
@@ -49,4 +51,5 @@ returns c =
           let all : n ≡ length rows = omega (arith, c.loop-position-test.false, c.loop-position.auto.position-end) in
           subst (λ m. All (StandBefore p c.args.trip.0 m) (map (λ x. x.items) c.loop-position.found.items)) all (c.loop-position.invariant.order p was);
       noted = c.loop-position.invariant.noted;
+      ranked = c.loop-position.invariant.ranked;
     }

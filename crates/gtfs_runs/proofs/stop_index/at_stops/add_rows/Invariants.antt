@@ -1,4 +1,4 @@
-use Rattle.std.proofs.Common.{◌≡◌, ◌+◌, ◌==◌, ◌&&◌, ℕ, List, Some, cond, length, map, nat_lt}
+use Rattle.std.proofs.Common.{◌≡◌, ◌+◌, ◌==◌, ◌&&◌, ℕ, Bool, true, List, Some, cond, length, map, nat_lt}
 use Rattle.std.specs.List.{All, slice_get}
 use Rattle.gtfs_columns.specs.Values.{if_there}
 use Rattle.gtfs_rows.specs.Trips.{stop_rows_by_trip}
@@ -20,4 +20,6 @@ invariant-loop-position l = record {
       + cond ((t == l.trip.0) && nat_lt r l.position && if_there (slice_get l.rows r) (leaves_stop p u l.rows fs s)) 1 0;
   order : (p : Parts) → All (StandBefore p l.trip.0 0) (map (λ x. x.items) l.fn.found.items) → All (StandBefore p l.trip.0 l.position) (map (λ x. x.items) l.found.items);
   noted : (p : Parts) → slice_get (stop_rows_by_trip p) l.trip.0 ≡ Some l.rows → All (All (IsNoted p)) (map (λ x. x.items) l.fn.found.items) → All (All (IsNoted p)) (map (λ x. x.items) l.found.items);
+  ranked : (q : ℕ → ℕ → Bool) → q l.trip.0 l.rank ≡ true → All (All (λ x. q x.trip x.rank ≡ true)) (map (λ x. x.items) l.fn.found.items)
+      → All (All (λ x. q x.trip x.rank ≡ true)) (map (λ x. x.items) l.found.items);
 }

@@ -37,6 +37,7 @@ returns-then-is_to_fill c =
           c.add_rows.ensures.told;
       order = on_ok_weaker c.add_rows.result (λ later was k d within. (later c.args.feed.now was k d within).in_order) c.add_rows.ensures.order;
       noted = on_ok_weaker c.add_rows.result (λ more. more q (rows_timed c.args.times c.args.feed.now c.soundness.ensures c.args.trip.0 rows _ c.trip_rows-rows.ensures is)) c.add_rows.ensures.noted;
+      ranked = c.add_rows.ensures.ranked;
     }
 
 pub returns : goal.returns
@@ -51,4 +52,5 @@ returns c =
           c.add_rows-2.ensures.told;
       order = on_ok_weaker c.add_rows-2.result (λ later was k d within. (later c.args.feed.now was k d within).in_order) c.add_rows-2.ensures.order;
       noted = on_ok_weaker c.add_rows-2.result (λ more. more q (rows_timed c.args.times c.args.feed.now c.soundness.ensures c.args.trip.0 rows _ c.trip_rows-rows.ensures is)) c.add_rows-2.ensures.noted;
+      ranked = c.add_rows-2.ensures.ranked;
     }

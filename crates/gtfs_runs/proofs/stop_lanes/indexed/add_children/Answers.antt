@@ -5,7 +5,7 @@ use Rattle.std.proofs.lemmas.Option.{get_or_from_slice_get}
 use Rattle.gtfs_runs.specs.StopLanes.{period_value}
 use Rattle.gtfs_runs.specs.declared.stop_index.children.Child.{Child}
 use Rattle.gtfs_runs.specs.steps.AtStops.{at_stop}
-use Rattle.gtfs_runs.specs.steps.Groups.{AreIndexedTrips}
+use Rattle.gtfs_runs.specs.steps.Ranked.{IsRanked, group_number}
 use Rattle.gtfs_runs.specs.steps.RowFinds.{AreAdded, IsInside}
 use Rattle.gtfs_runs.proofs.IndexRows.{child_rows, children_rows, more_children}
 use Rattle.gtfs_runs.proofs.RowSteps.{more_added, none_added}
@@ -16,8 +16,14 @@ rows-requires c =
     let none : Child = record { parent = 0; stop = 0 } in
     subst (λ n. n < length c.args.index.now.feed.stops) (sym c.stop.ensures) (c.requires.stops c.loop-child.child-index none c.loop-child-test.true)
 
-pub add_rows-requires-clause-trips : goal.add_rows-requires-clause-trips
-add_rows-requires-clause-trips c = subst (λ p. AreIndexedTrips p c.args.trips.now) (sym c.feed.ensures) c.requires.trips
+pub add_rows-requires-clause-ranked : goal.add_rows-requires-clause-ranked
+add_rows-requires-clause-ranked c =
+    let index = c.args.index.now in
+    let none : Child = record { parent = 0; stop = 0 } in
+    let is : at_stop index.rows c.stop.result.0 ≡ c.rows.result.now = get_or_from_slice_get index.rows c.stop.result.0 c.rows.result.now _ c.rows.ensures in
+    subst (λ p. All (IsRanked p c.args.trips.now) c.rows.result.now) (sym c.feed.ensures)
+    (subst (All (IsRanked index.feed c.args.trips.now)) (ap (at_stop index.rows) (sym c.stop.ensures) ∙ is)
+    (child_rows (IsRanked index.feed c.args.trips.now) index.rows c.args.children.now c.requires.ranked c.loop-child.child-index none c.loop-child-test.true))
 
 pub add_rows-requires-clause-rows : goal.add_rows-requires-clause-rows
 add_rows-requires-clause-rows c =
@@ -31,7 +37,7 @@ add_rows-requires-clause-rows c =
 pub loop-child-init : goal.loop-child-init
 loop-child-init c = record {
   added = none_added c.args.index.now.feed c.args.found.now.listed.items (map period_value c.args.found.now.periods.items);
-  groups = λ e were. were;
+  groups = λ were. were;
 }
 
 pub loop-child-preserved : goal.loop-child-preserved
@@ -52,7 +58,8 @@ loop-child-preserved c =
           (more_added index.feed (children_rows index.rows (take n children)) rows before.listed.items mid.listed.items new.listed.items
           (map period_value before.periods.items) (map period_value mid.periods.items) (map period_value new.periods.items) c.loop-child.invariant.added
           (subst (λ p. AreAdded p rows mid.listed.items new.listed.items (map period_value mid.periods.items) (map period_value new.periods.items)) c.feed.ensures c.in_ok-add_rows.ensures.added));
-      groups = λ e were. c.in_ok-add_rows.ensures.groups e (c.loop-child.invariant.groups e were);
+      groups = λ were. subst (λ p. All (λ x. group_number p x.trip ≡ x.group) new.listed.items) c.feed.ensures
+          (c.in_ok-add_rows.ensures.groups (subst (λ p. All (λ x. group_number p x.trip ≡ x.group) mid.listed.items) (sym c.feed.ensures) (c.loop-child.invariant.groups were)));
     }
 
 pub returns : goal.returns

@@ -1,4 +1,4 @@
-use Rattle.std.proofs.Common.{◌<◌, ◌++◌, [], List, length, map, sym, ap, subst}
+use Rattle.std.proofs.Common.{◌≡◌, ◌<◌, ◌++◌, [], List, length, map, sym, ap, subst, arith}
 use Rattle.std.specs.List.{All}
 use Rattle.std.proofs.lemmas.Option.{get_or_from_slice_get}
 use Rattle.gtfs_rows.specs.Views.{IsSoundParts}
@@ -8,17 +8,36 @@ use Rattle.gtfs_runs.specs.StopLanes.{LaneValue, period_value}
 use Rattle.gtfs_runs.specs.declared.stop_index.DepartureRow.{DepartureRow}
 use Rattle.gtfs_runs.specs.declared.stop_lanes.listed.Listed.{Listed}
 use Rattle.gtfs_runs.specs.steps.AtStops.{at_stop}
-use Rattle.gtfs_runs.specs.steps.Groups.{AreIndexedTrips}
+use Rattle.gtfs_runs.specs.steps.Courses.{AreServed}
+use Rattle.gtfs_runs.specs.steps.Ranked.{IsRanked, group_number}
 use Rattle.gtfs_runs.specs.steps.RowFinds.{AreAdded, IsInside}
 use Rattle.gtfs_runs.proofs.ChildFacts.{children_within}
-use Rattle.gtfs_runs.proofs.GroupFacts.{no_trip, nothing_numbered, numbers_of, trips_listed}
-use Rattle.gtfs_runs.proofs.IndexRows.{children_rows, first_all, inside_rows, last_all, noted_rows, of_place}
+use Rattle.gtfs_runs.proofs.GroupFacts.{nothing_numbered, numbers_of, trips_listed}
+use Rattle.gtfs_runs.proofs.IndexRows.{children_rows, first_all, inside_rows, last_all, noted_rows, of_all, of_place}
 use Rattle.gtfs_runs.proofs.RowFinds.{all_found}
 use Rattle.gtfs_runs.proofs.RowSteps.{more_added}
 use Rattle.gtfs_runs.proofs.stop_lanes.indexed.found_in_index.Goals as goal
 
-pub add_rows-requires-clause-trips : goal.add_rows-requires-clause-trips
-add_rows-requires-clause-trips c = subst (λ p. AreIndexedTrips p c.trips-trips.result.now) (sym c.feed-feed.ensures) c.trips-trips.ensures
+pub add_rows-requires-clause-ranked : goal.add_rows-requires-clause-ranked
+add_rows-requires-clause-ranked c =
+    let i = c.args.index.now in
+    let s = c.args.stop.0 in
+    let sound = subst IsSoundParts c.feed-feed.ensures c.soundness-2.ensures in
+    let children = c.children-children.result.now in
+    let P = IsRanked i.feed c.trips-trips.result.now in
+    let all = of_all i.times i.feed sound i.rows c.soundness.ensures c.notes.ensures s c.requires children c.children-children.ensures P c.trips-trips.ensures in
+    subst (λ p. All (IsRanked p c.trips-trips.result.now) c.rows-rows.result.now) (sym c.feed-feed.ensures)
+    (subst (All P) (get_or_from_slice_get i.rows s c.rows-rows.result.now [] c.rows-rows.ensures) (first_all P (at_stop i.rows s) (children_rows i.rows children) all))
+
+pub add_children-requires-clause-ranked : goal.add_children-requires-clause-ranked
+add_children-requires-clause-ranked c =
+    let i = c.args.index.now in
+    let s = c.args.stop.0 in
+    let sound = subst IsSoundParts c.feed-feed.ensures c.soundness-2.ensures in
+    let children = c.children-children.result.now in
+    let P = IsRanked i.feed c.trips-trips.result.now in
+    last_all P (at_stop i.rows s) (children_rows i.rows children)
+    (of_all i.times i.feed sound i.rows c.soundness.ensures c.notes.ensures s c.requires children c.children-children.ensures P c.trips-trips.ensures)
 
 pub add_rows-requires-clause-rows : goal.add_rows-requires-clause-rows
 add_rows-requires-clause-rows c =
@@ -67,8 +86,13 @@ pub returns-clause-numbers : goal.returns-clause-numbers
 returns-clause-numbers c =
     let i = c.args.index.now in
     let p = i.feed in
-    let trips = c.trips-trips.result.now in
     let xs = c.add_children.new.found.listed.items in
     let known : All (λ x. x.trip < length p.trips) xs = trips_listed p (timed_parts i.times p) xs (returns-clause-found c).told.own in
-    numbers_of p trips xs c.trips-trips.ensures known
-    (c.in_ok-add_children.ensures.groups no_trip (c.in_ok-add_rows.ensures.groups no_trip (nothing_numbered trips c.in_ok-with_capacity.field-0.items c.in_ok-with_capacity.ensures.items)))
+    let none = nothing_numbered c.feed-feed.result.now c.in_ok-with_capacity.field-0.items c.in_ok-with_capacity.ensures.items in
+    let mid = subst (λ q. All (λ x. group_number q x.trip ≡ x.group) c.add_rows.new.found.listed.items) c.feed-feed.ensures (c.in_ok-add_rows.ensures.groups none) in
+    numbers_of p xs known (c.in_ok-add_children.ensures.groups mid)
+
+pub returns-clause-services : goal.returns-clause-services
+returns-clause-services c =
+    let none = subst (AreServed c.feed-feed.result.now) (sym c.in_ok-with_capacity.ensures.items) (λ k d within. absurd (omega (arith, within))) in
+    c.in_ok-add_children.ensures.added.services (subst (λ p. AreServed p c.add_rows.new.found.listed.items) c.feed-feed.ensures (c.in_ok-add_rows.ensures.added.services none))

@@ -1,8 +1,14 @@
-use Rattle.std.proofs.Common.{◌≤◌, ◌<◌, ℕ, get_or}
+use Rattle.std.proofs.Common.{◌≡◌, ◌≤◌, ◌<◌, ◌==◌, ℕ, get_or, length, map}
+use Rattle.std.specs.List.{All}
+use Rattle.gtfs_runs.specs.Counts.{tally}
 use Rattle.gtfs_runs.specs.declared.stop_lanes.listed.Listed.{Listed}
-use Rattle.gtfs_runs.specs.steps.Groups.{sharing, trip_group}
+use Rattle.gtfs_runs.specs.steps.Groups.{trip_group}
 use Rattle.gtfs_runs.proofs.stop_lanes.numbered.trips_of.Given as goal
 
 -- the trips of the events so far
 abbrev pub invariant-loop-n : goal.invariant-loop-n
-invariant-loop-n l = (k : ℕ) (d : Listed) → k < l.n → 1 ≤ sharing l.trips.items (trip_group l.feed (get_or l.listed k d).trip)
+invariant-loop-n l = record {
+  known : All (λ t. t.0 < length l.feed.trips) l.trips.items;
+  all : (k : ℕ) (d : Listed) → k < l.n → 1 ≤ tally (λ t. (get_or l.listed k d).trip == t.0) l.trips.items;
+  stops : l.lists ≡ map (λ t. (trip_group l.feed t.0).1) l.trips.items;
+}

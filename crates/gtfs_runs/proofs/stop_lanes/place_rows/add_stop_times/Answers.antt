@@ -62,11 +62,11 @@ loop-position-preserved c =
           record {
             told = λ p s v r u fs place.
                 more_rows (v == t) (if_there (slice_get rows r) (λ z. leaves p s u rows fs (r, z))) r n _ _ _ (inv.told p s v r u fs place)
-                (here_added (λ z. leaves p s u rows fs (n, z)) rows t n d y x c.loop-position.found.items c.if-leaves_place.found.items within
+                (here_added (λ z. leaves p s u rows fs (n, z)) rows t 0 n d y x c.loop-position.found.items c.if-leaves_place.found.items within
                 (sym (here p s u rows fs n d c.args.place.now place) ∙ sym (c.leaves_place.ensures p u fs d) ∙ w.if-leaves_place.true) made pushed v r);
-            noted = λ p at were. subst (All (IsNoted p)) (sym pushed) (All-push (IsNoted p) c.loop-position.found.items x (inv.noted p at were) (noted_here p t n rows y x at within w.index-rows-position.is made));
+            noted = λ p at were. subst (All (IsNoted p)) (sym pushed) (All-push (IsNoted p) c.loop-position.found.items x (inv.noted p at were) (noted_here p t 0 n rows y x at within w.index-rows-position.is made));
             inside = λ p known were.
-                inside_push p t n y x c.loop-position.found.items c.if-leaves_place.found.items known (subst (λ z. unwrap_or (left_at z) 0 ≤ 3_599_999) (sym same) (c.requires.to n d within)) made pushed (inv.inside p known were);
+                inside_push p t 0 n y x c.loop-position.found.items c.if-leaves_place.found.items known (subst (λ z. unwrap_or (left_at z) 0 ≤ 3_599_999) (sym same) (c.requires.to n d within)) made pushed (inv.inside p known were);
           }
       | else-leaves_place w ↦
           let kept = ap (λ v. v.items) w.found-is in

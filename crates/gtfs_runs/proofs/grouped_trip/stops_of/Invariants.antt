@@ -1,7 +1,0 @@
-use Rattle.std.proofs.Common.{◌≡◌, take}
-use Rattle.gtfs_runs.specs.steps.Groups.{stops_in}
-use Rattle.gtfs_runs.proofs.grouped_trip.stops_of.Given as goal
-
--- those so far
-abbrev pub invariant-loop-row : goal.invariant-loop-row
-invariant-loop-row l = l.stops.items ≡ stops_in (take l.row-index l.rows)

@@ -1,0 +1,23 @@
+use Rattle.std.proofs.Common.{◌∙◌, ◌∷◌, [], get_or, length, map, ap, arith}
+use Rattle.std.proofs.lemmas.List.{get_or_default, length-map, map-append}
+use Rattle.gtfs_rows.specs.declared.numbers.TripNo.{TripNo}
+use Rattle.gtfs_runs.specs.steps.Groups.{group_of, trip_group}
+use Rattle.gtfs_runs.proofs.Pushes.{mapped-all, pushed-more}
+use Rattle.gtfs_runs.proofs.stop_lanes.numbered.grouped_trips.Goals as goal
+
+pub get-requires : goal.get-requires
+get-requires c = omega (arith, ap length c.requires.stops, length-map c.args.trips.now (λ t. (trip_group c.args.feed.now t.0).1), c.loop-n-test.true)
+
+pub loop-n-preserved : goal.loop-n-preserved
+loop-n-preserved c =
+    let p = c.args.feed.now in
+    let trips = c.args.trips.now in
+    let n = c.loop-n.n in
+    let first : TripNo = record { 0 = 0 } in
+    let t = get_or trips n first in
+    let grouped = c.in_ok-grouped_trip.field-0 in
+    pushed-more (λ u. trip_group p u.0) trips n t _ _ (group_of grouped) c.loop-n-test.true (get_or_default trips n first t c.loop-n-test.true) c.loop-n.invariant
+    (ap (map group_of) c.in_ok-push.ensures.items ∙ map-append group_of c.loop-n.grouped.items (grouped ∷ [])) c.in_ok-grouped_trip.ensures
+
+pub returns : goal.returns
+returns c = mapped-all (λ t. trip_group c.args.feed.now t.0) c.args.trips.now c.loop-n.n _ c.loop-n-test.false c.loop-n.invariant
