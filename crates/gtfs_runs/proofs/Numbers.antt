@@ -1,8 +1,8 @@
 -- The numbers of groups: what they count, and that they compare like the groups. And what steps keep of the order and the services
 -- of events that have them.
-use Rattle.std.proofs.Common.{rules, ◌≡◌, ◌≤◌, ◌<◌, ◌+◌, ◌-◌, ◌++◌, ◌∙◌, ℕ, true, List, [], ◌∷◌, cond, false, length, map, take, drop, get_or, nat_lt, sym, ap, subst, arith, inl, inr, ◌≢◌, ◌==◌, get_or-set_other, get_or-set_same, Result, Ok, Err}
+use Rattle.std.proofs.Common.{rules, ◌≡◌, ◌≤◌, ◌<◌, ◌+◌, ◌-◌, ◌++◌, ◌∙◌, ℕ, true, List, [], ◌∷◌, cond, false, length, map, take, drop, get_or, nat_lt, sym, ap, subst, arith, inl, inr, ◌≢◌, ◌==◌, get_or-set_other, get_or-set_same, Some, Result, Ok, Err}
 use Rattle.std.specs.Prelude.{IfOk}
-use Rattle.std.specs.List.{All, slice_set}
+use Rattle.std.specs.List.{All, slice_get, slice_set}
 use Rattle.std.specs.List.Sorted.{IsPermutation, IsSorted}
 use Rattle.std.specs.Cmp.{IsTotalOrder, tied_itself}
 use Rattle.std.specs.Cmp.Rules.{comparing}
@@ -16,6 +16,7 @@ use Rattle.std.proofs.lemmas.Cmp.{nat_cmp_total, on_total, then_total}
 use Rattle.std.proofs.lemmas.List.{get_or-map, get_or-take, get_or_default, length-map, length-take-le}
 use Rattle.std.proofs.lemmas.List.Elements.{All-drop, All-map, All-set}
 use Rattle.std.proofs.lemmas.List.Sorted.{All-permutation}
+use Rattle.std.proofs.lemmas.Option.{get_or_from_slice_get}
 use Rattle.gtfs_field.proofs.NumberFacts.{number_itself as itself}
 use Rattle.gtfs_field.proofs.OrderingFacts.{tied as both_equal}
 use Rattle.gtfs_rows.proofs.SameElements.{pairs-map}
@@ -81,6 +82,12 @@ trips_kept xs trips new n some before kept so_far k d upto = subst (λ l. 1 ≤ 
       let last : k ≡ n = omega (arith, ltb-false k n high, upto) in
       subst (λ t. 1 ≤ tally (λ u. t == u.0) trips) (before d ∙ ap (λ m. (get_or xs m d).trip) (sym last)) (so_far (n - 1) d (omega (arith, some)))
 ])
+
+-- the stops of one of these trips
+pub named : (p : Parts) (trips : List TripNo) (lists : List (List ℕ)) (n : ℕ) (t : TripNo) (stops : List ℕ) → lists ≡ map (λ u. (trip_group p u.0).1) trips → slice_get lists n ≡ Some stops
+    → t ≡ get_or trips n t → n < length trips → stops ≡ (trip_group p t.0).1
+named p trips lists n t stops are at is within =
+    sym (get_or_from_slice_get lists n stops [] at) ∙ ap (λ l. get_or l n []) are ∙ get_or-map (λ u. (trip_group p u.0).1) trips n t [] within ∙ ap (λ u. (trip_group p u.0).1) (sym is)
 
 -- the group of a trip that is among these is among theirs
 pub shared : (p : Parts) (trips : List TripNo) (grouped : List GroupedTripValue) (t : ℕ) → map group_of grouped ≡ map (λ u. trip_group p u.0) trips

@@ -1,7 +1,10 @@
-ghost use Rattle.std.specs.Prelude.{◌≡◌, ◌<◌, ◌^◌, slice_index_or};
+ghost use Rattle.std.specs.Prelude.{◌≡◌, ◌<◌, ◌^◌, IfOk, length, slice_index_or};
 ghost use Rattle.std.specs.List.Sorted.{IsPermutation, IsSorted};
-ghost use Rattle.gtfs_runs.specs.steps.Groups.{group_cmp, group_of, grouped_cmp, lead_of};
+ghost use Rattle.gtfs_runs.specs.steps.Groups.{group_cmp, group_of, grouped_cmp, lead_of, trip_group};
 
+use crate::stop_index::small_number;
+use gtfs_feed::Feed;
+use gtfs_field::OutOfMemory;
 use gtfs_rows::TripNo;
 use std::cmp::Ordering;
 use std::marker::Model;
@@ -37,22 +40,28 @@ impl<'a> Model for GroupedTrip<'a> {
 }
 
 impl<'a> GroupedTrip<'a> {
-    // A trip of this service that leaves its first stop at this second and has these stops.
-    pub(crate) fn new(trip: TripNo, service: u32, start: u32, stops: &'a [u32]) -> GroupedTrip<'a>
-        ensures { result ≡ record {
+    // A trip of the feed that leaves its first stop at this second and has these stops.
+    pub(crate) fn of(
+        feed: &Feed,
+        trip: TripNo,
+        start: u32,
+        stops: &'a [u32],
+    ) -> Result<GroupedTrip<'a>, OutOfMemory>
+        requires { trip.0 < length feed.now.trips }
+        ensures { IfOk result (λ grouped. grouped ≡ record {
           trip = trip;
-          service = service;
+          service = (trip_group feed.now trip.0).0;
           stops = stops.now;
           start = start;
-        } }
+        }) }
     {
-        GroupedTrip {
+        Ok(GroupedTrip {
             trip,
             lead: lead(stops),
             stops,
-            service,
+            service: small_number(feed.trip_by_number(trip).service_id.0)?,
             start,
-        }
+        })
     }
 
     // The trip.

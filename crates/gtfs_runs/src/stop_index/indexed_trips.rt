@@ -89,9 +89,8 @@ pub(crate) fn grouped_trips<'a>(
     feed.soundness();
     let mut trips = Vec::with_capacity(alloc, feed.trip_count())?;
     for number in 0..feed.trip_count() {
-        let trip = TripNo(number);
-        let service = small_number(feed.trip_by_number(trip).service_id.0)?;
-        trips.push(GroupedTrip::new(trip, service, starts[number], lists.get(number)))?;
+        let stops = lists.get(number);
+        trips.push(GroupedTrip::of(feed, TripNo(number), starts[number], stops)?)?;
     }
     Ok(trips)
 }

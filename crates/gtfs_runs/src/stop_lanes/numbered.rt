@@ -76,24 +76,10 @@ fn grouped_trips<'a>(
 {
     let mut grouped = Vec::with_capacity(alloc, trips.len())?;
     for n in 0..trips.len() {
-        grouped.push(grouped_trip(feed, trips[n], lists.get(n))?)?;
+        let start = trip_start(feed.trip_rows(trips[n]));
+        grouped.push(GroupedTrip::of(feed, trips[n], start, lists.get(n))?)?;
     }
     Ok(grouped)
-}
-
-// A trip, which has these stops, by its group.
-fn grouped_trip<'a>(
-    feed: &Feed,
-    trip: TripNo,
-    stops: &'a [u32],
-) -> Result<GroupedTrip<'a>, OutOfMemory>
-    requires known { trip.0 < length feed.now.trips }
-    requires stops { stops.now ≡ (trip_group feed.now trip.0).1 }
-    ensures { IfOk result (λ grouped. group_of grouped ≡ trip_group feed.now trip.0) }
-{
-    let service = small_number(feed.trip_by_number(trip).service_id.0)?;
-    let start = trip_start(feed.trip_rows(trip));
-    Ok(GroupedTrip::new(trip, service, start, stops))
 }
 
 // Whether the event at this index is of the trip of the one before it.
@@ -151,6 +137,6 @@ fn group_at(
     let trip = listed[n].trip();
     let mut lists = StopLists::with_room(alloc, 1, 0)?;
     lists.push(feed.trip_rows(trip))?;
-    let trip = grouped_trip(feed, trip, lists.get(0))?;
+    let trip = GroupedTrip::of(feed, trip, 0, lists.get(0))?;
     small_number(trips.partition_point(|other| group_order(other, &trip).is_lt()))
 }
