@@ -18,7 +18,7 @@ PUBLIC = r"(?:pub(?:\([^)]*\))?\s+)?"
 # A constant can have the value of a `const fn`, so the body of one counts beyond its contract.
 FUNCTION = re.compile(ATTRIBUTES + PUBLIC + r"(?:(?:unsafe|final)\s+)*(?<!const )\bfn\s+(\w+)")
 BLOCK = re.compile(rf"(?m)^{PUBLIC}(?:unsafe\s+)?((impl|trait)\b[^{{;]*){{")
-LINE = re.compile(r"(file|old|new): ?(.*)")
+LINE = re.compile(r"(?m)^(file|old|new): ?(.*)")
 
 # Lines of a check: a goal that is open, and a fault of a file.
 OPEN = re.compile(r"note: (?:\./)?(src/\S+?\.rt):(\d+):\d+: it is not proved that ")
