@@ -16,10 +16,10 @@ use Rattle.gtfs_columns.proofs.BoolFacts.{same_test as same_tests}
 use Rattle.gtfs_board.specs.CandidateKeys.{key_among}
 use Rattle.gtfs_rows.specs.Departures.{IsBoard, Origins, is_listed, is_member}
 use Rattle.gtfs_rows.specs.Key.{Key, key_cmp}
-use Rattle.gtfs_board.specs.declared.merge.candidate.Candidate.{Candidate}
-use Rattle.gtfs_board.specs.merge.Candidates.{candidate_lt}
-use Rattle.gtfs_board.specs.merge.Lanes.{rest_of}
-use Rattle.gtfs_board.specs.merge.Order.{Each, In, AscendsBy}
+use Rattle.gtfs_board.specs.declared.upcoming.candidate.Candidate.{Candidate}
+use Rattle.gtfs_board.specs.upcoming.Candidates.{candidate_lt}
+use Rattle.gtfs_board.specs.upcoming.Lanes.{rest_of}
+use Rattle.gtfs_board.specs.upcoming.Order.{Each, In, AscendsBy}
 use Rattle.gtfs_board.proofs.CandidateKeys.{key_rises}
 use Rattle.gtfs_board.proofs.Candidates.{candidates_strict}
 use Rattle.gtfs_board.proofs.KeyOrder.{key_cmp_total, key_cmp-IsAntisymmetric}

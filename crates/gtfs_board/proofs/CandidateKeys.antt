@@ -8,8 +8,8 @@ use Rattle.gtfs_field.specs.TextOrder.{text_cmp}
 use Rattle.gtfs_runs.proofs.TripIds.{numbers}
 use Rattle.gtfs_board.specs.CandidateKeys.{key_among}
 use Rattle.gtfs_rows.specs.Key.{key_cmp}
-use Rattle.gtfs_board.specs.declared.merge.candidate.Candidate.{Candidate}
-use Rattle.gtfs_board.specs.merge.Candidates.{candidate_lt, departure_cmp, lane_cmp}
+use Rattle.gtfs_board.specs.declared.upcoming.candidate.Candidate.{Candidate}
+use Rattle.gtfs_board.specs.upcoming.Candidates.{candidate_lt, departure_cmp, lane_cmp}
 use Rattle.gtfs_board.proofs.KeyOrder.{key_cmp-IsAntisymmetric}
 
 pub compares : (ids : List (List ℕ)) (a b : Candidate) → Ascends text_cmp ids → a.trip < length ids → b.trip < length ids

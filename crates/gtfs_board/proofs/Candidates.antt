@@ -8,9 +8,9 @@ use Rattle.std.specs.declared.cmp.Ordering.TheVariants.{Less, Equal, Greater}
 use Rattle.std.specs.Ordering.{is_lt, ordering_reverse}
 use Rattle.gtfs_field.proofs.NumberFacts.{cases_int}
 use Rattle.gtfs_field.proofs.OrderingFacts.{less, tied as parts}
-use Rattle.gtfs_board.specs.declared.merge.candidate.Candidate.{Candidate}
-use Rattle.gtfs_board.specs.merge.Candidates.{candidate_cmp, candidate_lt}
-use Rattle.gtfs_board.specs.merge.Order.{IsStrict}
+use Rattle.gtfs_board.specs.declared.upcoming.candidate.Candidate.{Candidate}
+use Rattle.gtfs_board.specs.upcoming.Candidates.{candidate_cmp, candidate_lt}
+use Rattle.gtfs_board.specs.upcoming.Order.{IsStrict}
 
 tied : (r s : Ordering) → r ≡ ordering_reverse s → is_lt r ≡ false → is_lt s ≡ false → r ≡ Equal
 tied r Less e h k = absurd (true≢false k)

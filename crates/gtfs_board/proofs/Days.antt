@@ -7,9 +7,9 @@ use Rattle.std.proofs.lemmas.List.Elements.{filter_map-append}
 use Rattle.std.proofs.lemmas.List.Sums.{fold-append}
 use Rattle.std.proofs.lemmas.List.{map-append}
 use Rattle.gtfs_field.proofs.ListFacts.{range-push}
-use Rattle.gtfs_board.specs.declared.merge.candidate.Candidate.{Candidate}
-use Rattle.gtfs_board.specs.merge.Lanes.{Events}
-use Rattle.gtfs_board.specs.merge.Candidates.{candidate_lt, heads_on, least_from}
+use Rattle.gtfs_board.specs.declared.upcoming.candidate.Candidate.{Candidate}
+use Rattle.gtfs_board.specs.upcoming.Lanes.{Events}
+use Rattle.gtfs_board.specs.upcoming.Candidates.{candidate_lt, heads_on, least_from}
 
 pub heads_on-none : (events : Events Candidate) (floor : Candidate) (day : ℤ) → heads_on events floor day 0 ≡ []
 unfolding heads_on

@@ -31,7 +31,7 @@ use Rattle.gtfs_runs.specs.declared.event.Event.{Event}
 use Rattle.gtfs_runs.proofs.Counting.{same-is as event_same, same-self as same_itself}
 use Rattle.gtfs_runs.proofs.Tallies.{tally-append as tally_more}
 use Rattle.gtfs_board.specs.LaneDays.{lane_at, no_lane}
-use Rattle.gtfs_board.specs.merge.Order.{In}
+use Rattle.gtfs_board.specs.upcoming.Order.{In}
 use Rattle.gtfs_board.proofs.LaneDays.{flat_map-in}
 use Rattle.gtfs_board.proofs.Rests.{filter-in}
 

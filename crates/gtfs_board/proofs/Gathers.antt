@@ -4,10 +4,10 @@ use Rattle.std.specs.List.{filter_map, cons_option, range_with_len}
 use Rattle.std.specs.Int.{int_min}
 use Rattle.std.specs.Option.{option_to_list}
 use Rattle.std.proofs.lemmas.Int.{ints, clamps}
-use Rattle.gtfs_board.specs.declared.merge.candidate.Candidate.{Candidate}
-use Rattle.gtfs_board.specs.merge.Order.{In, Each, tally}
-use Rattle.gtfs_board.specs.merge.Lanes.{Events, AreLanes, AreHeads, is_opened, AreStepsFew}
-use Rattle.gtfs_board.specs.merge.Candidates.{candidate_lt, heads_on, least_from, day_of, lane_of, instant_of, IsWithin, AreGathered}
+use Rattle.gtfs_board.specs.declared.upcoming.candidate.Candidate.{Candidate}
+use Rattle.gtfs_board.specs.upcoming.Order.{In, Each, tally}
+use Rattle.gtfs_board.specs.upcoming.Lanes.{Events, AreLanes, AreHeads, is_opened, AreStepsFew}
+use Rattle.gtfs_board.specs.upcoming.Candidates.{candidate_lt, heads_on, least_from, day_of, lane_of, instant_of, IsWithin, AreGathered}
 use Rattle.gtfs_board.proofs.Orders.{find-in, Each-in}
 use Rattle.gtfs_board.proofs.Heads.{head-found}
 use Rattle.gtfs_board.proofs.Opening.{heads_opened, heads_skipped}

@@ -1,6 +1,7 @@
 use Rattle.std.proofs.Common.{◌≡◌, ◌<◌, false, ◌⊎◌, inl, inr, arith, w32, to_z, of_z}
-use Rattle.std.specs.Prelude.{ℤ, pos, negsuc, ◌+ℤ◌, int_lt, ◌<ℤ◌, ◌≤ℤ◌, ◌-ℤ◌, unsigned_abs}
+use Rattle.std.specs.Prelude.{ℤ, pos, ◌+ℤ◌, int_lt, ◌<ℤ◌, ◌≤ℤ◌, ◌-ℤ◌, unsigned_abs}
 use Rattle.std.proofs.lemmas.Int.{ints, to_z-of_z}
+use Rattle.gtfs_days.specs.Service.{first_service_day, last_service_day}
 use Rattle.gtfs_field.proofs.NumberFacts.{abs-above, cases_int}
 
 pub le-int_lt : (a b : ℤ) → b ≤ℤ a → int_lt a b ≡ false
@@ -27,9 +28,8 @@ le_chain a b d h up = omega (arith, ints, h, up)
 -- ---- days
 
 -- the day after one of the days
-pub day_after : (first start day last : ℤ) → negsuc 2_999_999 ≤ℤ first → last ≤ℤ pos 3_000_000 → first ≤ℤ start → start ≤ℤ day → day ≤ℤ last
-    → to_z w32 (of_z w32 (day +ℤ pos 1)) ≡ day +ℤ pos 1
-day_after first start day last low high from since within = to_z-of_z w32 (day +ℤ pos 1) (omega (arith, ints, low, high, from, since, within))
+pub day_after : (day : ℤ) → first_service_day ≤ℤ day → day ≤ℤ last_service_day → to_z w32 (of_z w32 (day +ℤ pos 1)) ≡ day +ℤ pos 1
+day_after day from to = to_z-of_z w32 (day +ℤ pos 1) (omega (arith, ints, from, to))
 
 pub after_within : (day last : ℤ) → day ≤ℤ last → (day +ℤ pos 1) ≤ℤ (last +ℤ pos 1)
 after_within day last within = omega (arith, ints, within)

@@ -1,9 +1,9 @@
 -- The departures of lanes on days: where they stand, and in which order.
-use Rattle.std.proofs.Common.{◌≡◌, ◌+◌, ◌≤◌, ◌<◌, ℕ, zero, suc, ℤ, Bool, true, false, cond, List, [], ◌∷◌, ◌⊎◌, inl, inr, map, length, get_or, Option, Some, None, refl, sym, ap, subst, ◌∙◌, arith, find, unwrap_or, w64, SFits}
+use Rattle.std.proofs.Common.{◌≡◌, ◌+◌, ◌≤◌, ◌<◌, ℕ, zero, suc, ℤ, Bool, true, false, cond, List, [], ◌∷◌, ◌⊎◌, inl, inr, map, length, get_or, Option, Some, None, refl, sym, ap, subst, ◌∙◌, arith, find, unwrap_or, w64, SFits, to_z, of_z}
 use Rattle.std.specs.Prelude.{◌^◌, negsuc, option_map, pos, ◌+ℤ◌, ◌-ℤ◌, ◌*ℤ◌, ◌<ℤ◌, ◌≤ℤ◌, int_le, slice_get}
 use Rattle.std.specs.Int.{int_max, int_min}
 use Rattle.std.specs.List.{filter, flat_map, range_with_len}
-use Rattle.std.proofs.lemmas.Int.{ints, clamps}
+use Rattle.std.proofs.lemmas.Int.{ints, clamps, to_z-of_z}
 use Rattle.std.proofs.lemmas.Bool.{cases_Bool, cases_lt, true≢false, and_parts}
 use Rattle.std.proofs.lemmas.List.{get_or_past, length-map}
 use Rattle.jiff_core.specs.Calendar.{IsWithin}
@@ -30,10 +30,10 @@ use Rattle.gtfs_runs.specs.StopLanes.{StopLanesValue, lanes_of}
 use Rattle.gtfs_runs.specs.declared.event.Event.{Event}
 use Rattle.gtfs_rows.specs.Departures.{Origins}
 use Rattle.gtfs_board.specs.LaneDays.{departing, event_of, serves_on, no_lane, lane_at, ends_by, departures_on, departures_of_day, all_departures, AreAscending, AreTimely}
-use Rattle.gtfs_board.specs.declared.merge.candidate.Candidate.{Candidate}
-use Rattle.gtfs_board.specs.merge.Candidates.{candidate_lt, IsAside, AreCandidateLanes, AreFromOrigin, EndsBy, day_of, lane_of, first_above}
-use Rattle.gtfs_board.specs.merge.Lanes.{AreAll}
-use Rattle.gtfs_board.specs.merge.Order.{In, Each, AscendsBy}
+use Rattle.gtfs_board.specs.declared.upcoming.candidate.Candidate.{Candidate}
+use Rattle.gtfs_board.specs.upcoming.Candidates.{candidate_lt, IsAside, AreCandidateLanes, AreFromOrigin, EndsBy, day_of, lane_of, first_above}
+use Rattle.gtfs_board.specs.upcoming.Lanes.{AreAll}
+use Rattle.gtfs_board.specs.upcoming.Order.{In, Each, AscendsBy}
 use Rattle.gtfs_board.proofs.Candidates.{candidates_strict, not_lt-instant}
 use Rattle.gtfs_board.proofs.Orders.{Each-in, each-all, find-agree, in-left, in-right, in-either}
 use Rattle.gtfs_board.proofs.Rests.{in-filter, filter-in}
@@ -187,6 +187,12 @@ departing_ascend o d i (x ∷ xs) up = (
   departing_ascend o d i xs (pairs-tail (λ a b. event_cmp a b ≡ Less) x xs up),
 )
 
+pub rises : (x y : Candidate) → candidate_lt x y ≡ true → x.instant ≤ℤ y.instant
+rises x y less = elim (cases_Bool (candidate_lt y x)) [
+  | inl back ↦ absurd (true≢false (sym (candidates_strict.trans x y x less back) ∙ candidates_strict.irrefl x))
+  | inr is ↦ not_lt-instant y x is
+]
+
 -- ---- services
 
 runs_within : (d : ℤ) (o : Option ServiceRow) → is_service_day d ≡ false → if_there o (λ s. is_active s.service d) ≡ false
@@ -328,21 +334,9 @@ module _ (p : Parts) (origin : Origins) (lanes : StopLanesValue) (end : ℤ) whe
     where
       past : (x y : Candidate) → candidate_lt x y ≡ true → ends_by end x ≡ false → ends_by end y ≡ false
       past x y less over = elim (cases_Bool (ends_by end y)) [
-        | inl inside ↦ absurd (true≢false (sym (le-int_le x.instant end (follows x y less (int_le-true y.instant end inside))) ∙ over))
+        | inl inside ↦ absurd (true≢false (sym (le-int_le x.instant end (let up = rises x y less in let within = int_le-true y.instant end inside in omega (arith, ints, up, within))) ∙ over))
         | inr is ↦ is
       ]
-        where
-          follows : (x y : Candidate) → candidate_lt x y ≡ true → y.instant ≤ℤ end → x.instant ≤ℤ end
-          follows x y less inside = elim (cases_Bool (candidate_lt y x)) [
-            | inl back ↦ absurd (true≢false (sym (candidates_strict.trans x y x less back) ∙ candidates_strict.irrefl x))
-            | inr is ↦ let le = not_lt-instant y x is in omega (arith, ints, le, inside)
-          ]
-
-pub rises : (x y : Candidate) → candidate_lt x y ≡ true → x.instant ≤ℤ y.instant
-rises x y less = elim (cases_Bool (candidate_lt y x)) [
-  | inl back ↦ absurd (true≢false (sym (candidates_strict.trans x y x less back) ∙ candidates_strict.irrefl x))
-  | inr is ↦ not_lt-instant y x is
-]
 
 near_low : (day o x : ℤ) (a : ℕ) → IsWithin 93_599 (day -ℤ o) → x ≡ o +ℤ pos a → day ≤ℤ (x +ℤ pos 93_599)
 near_low day o x a near is = omega (arith, ints, near.1, is)
@@ -451,17 +445,27 @@ module _ (p : Parts) (z : Zone) (lanes : StopLanesValue) (end : ℤ) where
     | inr past ↦ absurd (subst (In c) (none_past p (zone_origin z) lanes end c.lane c.day past) there)
   ]
 
-  pub after_origin : (c : Candidate) (o : ℤ) → In c (departures_on p (zone_origin z) lanes end c.lane c.day) → o ≡ c.instant -ℤ pos c.at
-      → (o ≡ zone_origin z c.day) × ((negsuc 999_999_999_999 ≤ℤ o) × (o ≤ℤ pos 999_999_999_999))
-  after_origin c o there is =
+  -- its origin, as the code computes it
+  pub after_origin : (c : Candidate) (from : ℤ) → In c (departures_on p (zone_origin z) lanes end c.lane c.day) → from ≡ pos c.at → SFits w64 c.instant → SFits w64 from
+      → SFits w64 (to_z w64 (of_z w64 c.instant) -ℤ to_z w64 (of_z w64 from))
+      × ((to_z w64 (of_z w64 (to_z w64 (of_z w64 c.instant) -ℤ to_z w64 (of_z w64 from))) ≡ zone_origin z c.day)
+      × ((negsuc 999_999_999_999 ≤ℤ zone_origin z c.day) × (zone_origin z c.day ≤ℤ pos 999_999_999_999)))
+  after_origin c from there is instant_fits from_fits =
       let on = on-event p (zone_origin z) lanes end c.lane c.day c there in
+      let small = origin_small p (lane_at lanes c.lane).service z c.day _ on.0 refl in
+      let fits = fits_small (zone_origin z c.day) small.0 small.1 in
       let at : c.at ≡ on.1.0.at = ap (λ (x : Candidate). x.at) on.1.1.1 in
       let instant : c.instant ≡ zone_origin z c.day +ℤ pos on.1.0.at = ap (λ (x : Candidate). x.instant) on.1.1.1 in
-      let same : o ≡ zone_origin z c.day = less_time o c.instant (zone_origin z c.day) c.at on.1.0.at is instant at in
-      (same, origin_small p (lane_at lanes c.lane).service z c.day o on.0 same)
+      let instant_is = to_z-of_z w64 c.instant instant_fits in
+      let from_is = to_z-of_z w64 from from_fits ∙ is in
+      let less : (to_z w64 (of_z w64 c.instant) -ℤ to_z w64 (of_z w64 from)) ≡ zone_origin z c.day = (λ i. instant_is i -ℤ from_is i) ∙ less_time c.instant (zone_origin z c.day) c.at on.1.0.at instant at in
+      (subst (SFits w64) (sym less) fits, (ap (λ x. to_z w64 (of_z w64 x)) less ∙ to_z-of_z w64 (zone_origin z c.day) fits, small))
     where
-      less_time : (o x z : ℤ) (a b : ℕ) → o ≡ x -ℤ pos a → x ≡ z +ℤ pos b → a ≡ b → o ≡ z
-      less_time o x z a b is instant at = omega (arith, ints, is, instant, at)
+      less_time : (x z : ℤ) (a b : ℕ) → x ≡ z +ℤ pos b → a ≡ b → (x -ℤ pos a) ≡ z
+      less_time x z a b instant at = omega (arith, ints, instant, at)
+
+      fits_small : (o : ℤ) → negsuc 999_999_999_999 ≤ℤ o → o ≤ℤ pos 999_999_999_999 → SFits w64 o
+      fits_small o low high = omega (arith, ints, low, high)
 
 -- what is kept of an event that was found
 pub kept_some : (end : ℤ) (o d : ℤ) (i : ℕ) (found : Option Event) (e : Event) (dep : Candidate) (r first : Option Candidate) → first ≡ keep (ends_by end) (map_option (departing o d i) found)
@@ -493,6 +497,3 @@ skip_all p origin lanes end day first n all idle i d since before = elim (cases_
   | inl inside ↦ on-idle p origin lanes end i d (idle i d inside since before)
   | inr past ↦ none_past p origin lanes end i d (omega (arith, all, past))
 ]
-
-pub fits_small : (o : ℤ) → negsuc 999_999_999_999 ≤ℤ o → o ≤ℤ pos 999_999_999_999 → SFits w64 o
-fits_small o low high = omega (arith, ints, low, high)

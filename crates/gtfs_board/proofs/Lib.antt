@@ -9,8 +9,8 @@ pub mod Days
 pub mod Candidates
 pub mod Queues
 pub mod Gathers
-pub mod Idle
-pub mod Merges
+pub mod KnownDays
+pub mod Waiting
 pub mod Starts
 pub mod Joined
 pub mod KeyOrder

@@ -13,8 +13,8 @@ use Rattle.gtfs_runs.specs.Order.{is_above_moment}
 use Rattle.gtfs_runs.specs.declared.event.Event.{Event}
 use Rattle.gtfs_runs.specs.declared.moment.Moment.{Moment}
 use Rattle.gtfs_board.specs.LaneDays.{departing}
-use Rattle.gtfs_board.specs.declared.merge.candidate.Candidate.{Candidate}
-use Rattle.gtfs_board.specs.merge.Candidates.{candidate_lt, lane_cmp}
+use Rattle.gtfs_board.specs.declared.upcoming.candidate.Candidate.{Candidate}
+use Rattle.gtfs_board.specs.upcoming.Candidates.{candidate_lt, lane_cmp}
 use Rattle.gtfs_board.proofs.Ints.{cases_same_int}
 
 -- what decides last decides alike

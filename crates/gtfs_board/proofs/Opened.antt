@@ -1,6 +1,6 @@
 -- A board that was opened: what is left of it, what is shown, and its bounds.
 use Rattle.std.proofs.Common.{◌≡◌, ◌+◌, ◌*◌, ◌≤◌, ◌<◌, ℕ, zero, suc, ℤ, ◌&&◌, Bool, true, false, List, [], ◌∷◌, map, length, Option, Some, None, refl, sym, ap, subst, ◌∙◌, inl, inr, arith, find, unwrap_or, w64, SFits}
-use Rattle.std.specs.Prelude.{◌==◌, ◌^◌, negsuc, pos, ◌+ℤ◌, ◌-ℤ◌, ◌<ℤ◌, ◌≤ℤ◌, bytes_eq, count_by, int_le, int_lt, slice_get}
+use Rattle.std.specs.Prelude.{◌==◌, ◌^◌, negsuc, pos, ◌+ℤ◌, ◌-ℤ◌, ◌<ℤ◌, ◌≤ℤ◌, bytes_eq, int_le, int_lt, slice_get}
 use Rattle.std.specs.Ordering.{is_lt, nat_cmp, on, ordering_then}
 use Rattle.std.specs.declared.cmp.Ordering.{Ordering}
 use Rattle.std.specs.declared.cmp.Ordering.TheVariants.{Less, Equal, Greater}
@@ -17,7 +17,7 @@ use Rattle.gtfs_rows.specs.declared.stop.Stop.{Stop as StopRowOf}
 use Rattle.gtfs_runs.proofs.TripIds.{position_at, position_none, text_at, turned}
 use Rattle.gtfs_board.specs.LaneDays.{serves_on}
 use Rattle.gtfs_columns.proofs.SiteFacts.{text_is, text_itself}
-use Rattle.gtfs_days.specs.Service.{is_service_day, service_days}
+use Rattle.gtfs_days.specs.Service.{is_service_day}
 use Rattle.gtfs_days.specs.Zone.{zone_origin}
 use Rattle.gtfs_days.specs.declared.zone.Zone.{Zone}
 use Rattle.gtfs_rows.specs.Trips.{frequencies_by_trip, stop_rows_by_trip}
@@ -31,7 +31,7 @@ use Rattle.gtfs_rows.specs.declared.parts.Parts.{Parts}
 use Rattle.gtfs_runs.specs.StopLanes.{AreLanesOf, StopLanesValue, lanes_of}
 use Rattle.gtfs_field.specs.TextOrder.{text_cmp}
 use Rattle.gtfs_board.specs.Board as board
-use Rattle.gtfs_board.specs.Board.{FirstIsLeast, first_instant, keys_of, may_be_opened, start_of, step_count, steps_for_days}
+use Rattle.gtfs_board.specs.Board.{AreStepsWithin, FirstIsLeast, StepCount, first_instant, keys_of, reach, start_of, step_count}
 use Rattle.gtfs_board.specs.CandidateKeys.{key_among}
 use Rattle.gtfs_rows.specs.Departures.{IsBoard, departs_at, is_above, is_member}
 use Rattle.gtfs_board.specs.Floors.{IsNumbered, is_from}
@@ -42,15 +42,13 @@ use Rattle.gtfs_board.specs.Span.{is_span, is_writable}
 use Rattle.gtfs_board.specs.declared.span.Span.{Span}
 use Rattle.gtfs_board.specs.Showing.{IsOfFeed, candidate_key, listed_in, candidate_times, candidate_trip}
 use Rattle.gtfs_board.specs.Shown.{IsShown, row_numbered, shown, shown_at, trip_with_id}
-use Rattle.gtfs_board.specs.declared.merge.candidate.Candidate.{Candidate}
-use Rattle.gtfs_board.specs.merge.Candidates as merge
-use Rattle.gtfs_board.specs.merge.Candidates.{MergeValue, candidate_lt, departure_cmp, head_of, lane_cmp, rest_above}
-use Rattle.gtfs_board.specs.merge.Lanes.{is_reached}
-use Rattle.gtfs_board.specs.merge.Order.{Each, In, AscendsBy, tally}
+use Rattle.gtfs_board.specs.declared.upcoming.candidate.Candidate.{Candidate}
+use Rattle.gtfs_board.specs.upcoming.Candidates as waiting
+use Rattle.gtfs_board.specs.upcoming.Candidates.{TakesFirst, UpcomingValue, candidate_lt, departure_cmp, head_of, lane_cmp, rest_above, steps_so_far}
+use Rattle.gtfs_board.specs.upcoming.Order.{Each, In, AscendsBy}
 use Rattle.gtfs_board.proofs.BoardKeys.{board-of, in-member}
 use Rattle.gtfs_board.proofs.CandidateKeys.{compares}
 use Rattle.gtfs_board.proofs.EventFacts.{any_at, lane_there, map_at, trip_back}
-use Rattle.gtfs_board.proofs.Queues.{tally_sum}
 use Rattle.gtfs_board.proofs.KeyOrder.{key_cmp_total}
 use Rattle.gtfs_board.proofs.LaneDays.{day_there, serves_within}
 use Rattle.gtfs_board.proofs.Orders.{Each-in}
@@ -173,19 +171,12 @@ keys_listed p (c ∷ cs) = ap (λ ks. candidate_key p c ∷ ks) (keys_listed p c
 
 -- ---- the bounds
 
-tally_count : (q : ℤ → Bool) (xs : List ℤ) → tally q xs ≡ count_by q xs
-tally_count q xs = sym (tally_sum q xs)
-
-position_is : (p : Parts) (end : ℤ) (cs : List Candidate) → first_instant (end +ℤ pos 1) (map (listed_in p) cs) ≡ merge.position end (head_of cs)
+position_is : (p : Parts) (end : ℤ) (cs : List Candidate) → first_instant (end +ℤ pos 1) (map (listed_in p) cs) ≡ waiting.position end (head_of cs)
 position_is p end [] = omega (arith, ints)
 position_is p end (c ∷ cs) = refl
 
-pub reach_is : (p : Parts) (z : Zone) (v : MergeValue) → v.days ≡ service_days
-    → board.reach v.latest v.start (board.position (board_value p z v)) ≡ merge.reach v
-reach_is p z v days =
-    ap (λ x. count_by (may_be_opened v.latest v.start x) service_days) (position_is p v.end v.rest)
-    ∙ sym (tally_count (is_reached (v.start -ℤ pos (v.latest + 93_599)) (merge.stands v)) service_days)
-    ∙ ap (tally (is_reached (v.start -ℤ pos (v.latest + 93_599)) (merge.stands v))) (sym days)
+pub steps_are : (p : Parts) (z : Zone) (v : UpcomingValue) → steps_so_far v ≡ step_count (board_value p z v)
+steps_are p z v = ap (λ x. record { made = v.steps; for_days = v.lanes * reach v.latest v.start x }) (sym (position_is p v.end v.rest))
 
 not_less : (r l : Ordering) → is_lt (ordering_then r l) ≡ true → r ≡ Greater → ⊥
 not_less r l less greater = cc
@@ -236,7 +227,7 @@ least_first p up (c ∷ cs) queue known a within same = (
   All-from_recursion (λ k. is_lt (key_cmp k (candidate_key p c)) ≡ false) (map (candidate_key p) queue) (each_from p up c cs queue known a within),
 )
 
-pub queued_is : (p : Parts) (z : Zone) (v : MergeValue) → Ascends text_cmp (trip_ids p) → IsOpen p v → merge.IsQueued v → board.IsQueued (board_value p z v)
+pub queued_is : (p : Parts) (z : Zone) (v : UpcomingValue) → Ascends text_cmp (trip_ids p) → IsOpen p v → waiting.IsQueued v → board.IsQueued (board_value p z v)
 queued_is p z v up opened q = record {
   within = All-from_recursion (λ k. is_member k (keys_of (map (listed_in p) v.rest)) ≡ true) (map (candidate_key p) v.queue) (each_member p v.rest v.queue q.within);
   first = least_first p up v.rest v.queue opened.of_feed opened.ascending q.within q.same_first;
@@ -245,26 +236,22 @@ queued_is p z v up opened q = record {
 
 -- ---- what is kept
 
-pub open_kept : (p : Parts) (v w : MergeValue) → IsOpen p v → w.rest ≡ v.rest → w.days ≡ v.days → IsOpen p w
-open_kept p v w opened rest days = record {
+pub open_kept : (p : Parts) (v w : UpcomingValue) → IsOpen p v → w.rest ≡ v.rest → IsOpen p w
+open_kept p v w opened rest = record {
   of_feed = subst (Each (IsOfFeed p)) (sym rest) opened.of_feed;
   ascending = subst (AscendsBy candidate_lt) (sym rest) opened.ascending;
-  days = days ∙ opened.days;
 }
 
-pub open_taken : (p : Parts) (v w : MergeValue) (o : Option Candidate) → IsOpen p v → merge.TakesFirst v w o → w.days ≡ v.days → IsOpen p w
-open_taken p v w None opened taken days = open_kept p v w opened (taken.1 ∙ sym taken.0) days
-open_taken p v w (Some c) opened taken days = record {
+pub open_taken : (p : Parts) (v w : UpcomingValue) (o : Option Candidate) → IsOpen p v → TakesFirst v w o → IsOpen p w
+open_taken p v w None opened taken = open_kept p v w opened (taken.1 ∙ sym taken.0)
+open_taken p v w (Some c) opened taken = record {
   of_feed = (subst (Each (IsOfFeed p)) taken opened.of_feed).1;
   ascending = (subst (AscendsBy candidate_lt) taken opened.ascending).1;
-  days = days ∙ opened.days;
 }
 
-pub steps_kept : (p : Parts) (z : Zone) (v w : MergeValue) (n : ℕ) → v.days ≡ service_days → w.days ≡ service_days → merge.AreStepsWithin n v w
-    → board.AreStepsWithin n (step_count (board_value p z v)) (step_count (board_value p z w))
-steps_kept p z v w n days_v days_w h =
-    subst (λ m. w.steps + v.lanes * m ≤ v.steps + n + steps_for_days (board_value p z w)) (sym (reach_is p z v days_v))
-    (subst (λ m. w.steps + v.lanes * merge.reach v ≤ v.steps + n + w.lanes * m) (sym (reach_is p z w days_w)) h)
+pub steps_kept : (p : Parts) (z : Zone) (v w : UpcomingValue) (n : ℕ) → AreStepsWithin n (steps_so_far v) (steps_so_far w)
+    → AreStepsWithin n (step_count (board_value p z v)) (step_count (board_value p z w))
+steps_kept p z v w n h = subst (λ (t : StepCount). AreStepsWithin n t (step_count (board_value p z w))) (steps_are p z v) (subst (AreStepsWithin n (steps_so_far v)) (steps_are p z w) h)
 
 start_at : (from x : ℤ) (after : Option Key) → negsuc 999_999_999_999 ≤ℤ from → x ≡ start_of from after → negsuc 999_999_999_999 ≤ℤ x
 start_at from x None low is = omega (arith, ints, low, is)
@@ -279,8 +266,8 @@ start_low span x after valid is =
     let both = and_parts (int_le span.from span.until && is_writable span.from) (is_writable span.until) valid in
     start_at span.from x after (writable_low span.from (and_parts (int_le span.from span.until) (is_writable span.from) both.0).1) is
 
-pub from_none : (a b : ℕ) → a ≤ 0 + b → a ≤ b
-from_none a b h = omega (arith, h)
+pub from_none : (n a b : ℕ) → n ≡ 0 → a ≤ n + b → a ≤ b
+from_none n a b none h = omega (arith, none, h)
 
 fits_less : (x : ℤ) → negsuc 999_999_999_999 ≤ℤ x → SFits w64 x → SFits w64 (x -ℤ pos 1)
 fits_less x low fits = omega (arith, ints, low, fits)

@@ -4,8 +4,8 @@ use Rattle.std.specs.List.{filter_map, cons_option, range_with_len}
 use Rattle.std.proofs.lemmas.Int.{ints}
 use Rattle.std.proofs.lemmas.Bool.{cases_Bool, cases_eq, cases_lt}
 use Rattle.gtfs_field.proofs.NumberFacts.{cases_int, lt-int_lt}
-use Rattle.gtfs_board.specs.merge.Order.{IsStrict, same, tally, holds}
-use Rattle.gtfs_board.specs.merge.Lanes.{Events, AreLanes, AreHeads}
+use Rattle.gtfs_board.specs.upcoming.Order.{IsStrict, same, tally, holds}
+use Rattle.gtfs_board.specs.upcoming.Lanes.{Events, AreLanes, AreHeads}
 use Rattle.gtfs_board.proofs.Orders.{find-in}
 use Rattle.gtfs_board.proofs.Heads.{holds-some}
 use Rattle.gtfs_board.proofs.Ints.{le-int_lt, cases_same_int}

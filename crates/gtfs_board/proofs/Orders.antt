@@ -1,8 +1,8 @@
 use Rattle.std.specs.List.{All, AllByRecursion}
-use Rattle.std.proofs.Common.{◌≡◌, Bool, true, List, [], ◌∷◌, ◌++◌, ◌⊎◌, inl, inr, Some, refl, sym, ◌∙◌, ap, subst, arith, find}
+use Rattle.std.proofs.Common.{◌≡◌, Bool, true, false, List, [], ◌∷◌, ◌++◌, ◌⊎◌, inl, inr, Some, None, refl, sym, ◌∙◌, ap, subst, arith, find}
 use Rattle.std.proofs.lemmas.List.Elements.{All-tail}
 use Rattle.std.proofs.lemmas.Bool.{true≢false, false≢true, cases_Bool}
-use Rattle.gtfs_board.specs.merge.Order.{IsStrict, In, Each, AscendsBy, same, IsUpward}
+use Rattle.gtfs_board.specs.upcoming.Order.{IsStrict, In, Each, AscendsBy, same, IsUpward}
 
 module _ {C : Type 0} (P : C → Type 0) where
   pub Each-in : (xs : List C) (x : C) → Each P xs → In x xs → P x
@@ -21,6 +21,10 @@ module _ {C : Type 0} (p : C → Bool) where
     | inl is ↦ let e2 = rw is at e in inl (cc)
     | inr isnt ↦ let e2 = rw isnt at e in inr (find-in xs h e2)
   ]
+
+  pub find-none : (xs : List C) → ((x : C) → In x xs → p x ≡ false) → find p xs ≡ None
+  find-none [] h = refl
+  find-none (x ∷ xs) h = rw (h x (inl refl)) (find-none xs (λ y there. h y (inr there)))
 
 module _ {C : Type 0} {lt : C → C → Bool} (o : IsStrict lt) where
   pub same-self : (x : C) → same lt x x ≡ true

@@ -12,9 +12,9 @@ use Rattle.std.proofs.lemmas.List.Sorted.{sorted_far, sum_by-IsPermutation}
 use Rattle.std.proofs.Math.Seq.{get_or-append_seam}
 use Rattle.std.proofs.lemmas.List.{get_or_append_left}
 use Rattle.std.proofs.lemmas.Option.{get_or_from_slice_get, slice_get_cases, slice_get_read}
-use Rattle.gtfs_board.specs.declared.merge.candidate.Candidate.{Candidate}
-use Rattle.gtfs_board.specs.merge.Order.{In, Each, same, tally}
-use Rattle.gtfs_board.specs.merge.Candidates.{AreHeadedBy, HaveSameMembers, IsFirst, candidate_cmp, candidate_lt}
+use Rattle.gtfs_board.specs.declared.upcoming.candidate.Candidate.{Candidate}
+use Rattle.gtfs_board.specs.upcoming.Order.{In, Each, same, tally}
+use Rattle.gtfs_board.specs.upcoming.Candidates.{AreHeadedBy, HaveSameMembers, IsFirst, candidate_cmp, candidate_lt}
 use Rattle.gtfs_board.proofs.Orders.{Each-in, each-all, in-left, in-right}
 use Rattle.gtfs_board.proofs.Heads.{in-from_tally}
 use Rattle.gtfs_board.proofs.Opening.{tally-append}

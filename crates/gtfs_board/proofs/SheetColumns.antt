@@ -45,7 +45,7 @@ use Rattle.gtfs_board.specs.LaneDays.{serves_on}
 use Rattle.gtfs_board.specs.SheetSteps.{IsPattern, IsShownAlong, column_cmp, column_times, is_column_before, is_column_of, is_run_on, is_same_column, named_column, running_at, sheet_along, sheet_of_columns, sheet_with, sheets_along, time_of_column}
 use Rattle.gtfs_board.specs.Timetable.{Run, Sheet, has_run_on, is_run_before, named_runs, row_at, run_cmp, runs_of, time_passed, time_of_run}
 use Rattle.gtfs_board.specs.declared.sheet.columns.Column.{Column}
-use Rattle.gtfs_board.specs.merge.Order.{In, AscendsBy, IsStrict}
+use Rattle.gtfs_board.specs.upcoming.Order.{In, AscendsBy, IsStrict}
 use Rattle.gtfs_board.proofs.Candidates.{strict_from_total}
 use Rattle.gtfs_runs.proofs.TripIds.{numbers, text_at}
 use Rattle.gtfs_board.proofs.EventFacts.{same_number, there_some, trip_back}

@@ -16,7 +16,7 @@ use Rattle.std.proofs.lemmas.Bool.{cases_Bool, true≢false}
 use Rattle.std.proofs.lemmas.List.Sorted.{ranks_by, sorted_far}
 use Rattle.gtfs_runs.specs.Counts.{tally}
 use Rattle.gtfs_runs.proofs.Tallies.{counted}
-use Rattle.gtfs_board.specs.merge.Order.{In, Each, AscendsBy}
+use Rattle.gtfs_board.specs.upcoming.Order.{In, Each, AscendsBy}
 
 -- ---- members
 

@@ -43,7 +43,7 @@ use Rattle.gtfs_runs.proofs.CourseOrder.{pairs-right}
 use Rattle.gtfs_board.specs.SheetSteps.{HasRow, IsPattern, stops_along}
 use Rattle.gtfs_board.specs.Timetable.{direction_rank, heading_cmp, is_heading_before}
 use Rattle.gtfs_board.specs.Timetable as timetable
-use Rattle.gtfs_board.specs.merge.Order.{In, AscendsBy, IsStrict}
+use Rattle.gtfs_board.specs.upcoming.Order.{In, AscendsBy, IsStrict}
 use Rattle.gtfs_runs.proofs.TripIds.{numbers}
 use Rattle.gtfs_board.proofs.Candidates.{strict_from_total}
 use Rattle.gtfs_board.proofs.EventFacts.{at_in, in_at}

@@ -28,7 +28,7 @@ use Rattle.gtfs_runs.proofs.TripTimes.{at_most}
 use Rattle.gtfs_board.specs.SheetSteps.{is_same_column}
 use Rattle.gtfs_board.specs.Timetable.{row_at, time_passed}
 use Rattle.gtfs_board.specs.declared.sheet.columns.Column.{Column}
-use Rattle.gtfs_board.specs.merge.Order.{In}
+use Rattle.gtfs_board.specs.upcoming.Order.{In}
 use Rattle.gtfs_board.proofs.LaneDays.{in-range}
 use Rattle.gtfs_board.proofs.Rests.{filter-in, in-filter}
 

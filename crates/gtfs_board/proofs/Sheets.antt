@@ -34,7 +34,7 @@ use Rattle.gtfs_board.specs.SheetSteps.{goes, is_idle, running_at, sheet_along, 
 use Rattle.gtfs_board.specs.Timetable.{SheetHeading, Run, Sheet, direction_at, direction_rank, has_heading, has_run_on, heading_cmp, sheet_heading, headings, is_heading_before, is_route, named_runs, row_at, running, runs_of, runs_under, sheet_under, sheets, time_passed, time_of_run, wants}
 use Rattle.gtfs_board.specs.declared.sheet.TableFault.{TableFault}
 use Rattle.gtfs_board.specs.declared.sheet.TableFault.TheVariants.{UnknownRoute}
-use Rattle.gtfs_board.specs.merge.Order.{In, IsStrict}
+use Rattle.gtfs_board.specs.upcoming.Order.{In, IsStrict}
 use Rattle.gtfs_board.proofs.Candidates.{strict_from_total}
 use Rattle.gtfs_runs.proofs.TripIds.{position_at, position_none, text_at}
 use Rattle.gtfs_board.proofs.EventFacts.{any_at, at_in, in_at, map_at, same_number}

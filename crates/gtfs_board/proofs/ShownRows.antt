@@ -20,7 +20,7 @@ use Rattle.gtfs_rows.specs.Runs.{starts_run}
 use Rattle.gtfs_board.specs.Lines.{Listed}
 use Rattle.gtfs_board.specs.Showing.{candidate_key, listed_in, candidate_trip}
 use Rattle.gtfs_board.specs.Shown.{mark_if, name_of_route, route_name, shown_at}
-use Rattle.gtfs_board.specs.declared.merge.candidate.Candidate.{Candidate}
+use Rattle.gtfs_board.specs.declared.upcoming.candidate.Candidate.{Candidate}
 use Rattle.gtfs_runs.proofs.TripIds.{text_at}
 use Rattle.gtfs_board.proofs.Opened.{found_id, listed_at}
 

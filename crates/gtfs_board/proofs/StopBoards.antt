@@ -30,8 +30,8 @@ use Rattle.gtfs_board.specs.CandidateKeys.{key_among}
 use Rattle.gtfs_rows.specs.Departures.{Origins, departs_at, runs_on}
 use Rattle.gtfs_rows.specs.Key.{Key}
 use Rattle.gtfs_board.specs.LaneDays.{all_departures, departing, lane_at, serves_on}
-use Rattle.gtfs_board.specs.declared.merge.candidate.Candidate.{Candidate}
-use Rattle.gtfs_board.specs.merge.Order.{In}
+use Rattle.gtfs_board.specs.declared.upcoming.candidate.Candidate.{Candidate}
+use Rattle.gtfs_board.specs.upcoming.Order.{In}
 use Rattle.gtfs_board.proofs.BoardKeys.{StandFor}
 use Rattle.gtfs_runs.proofs.TripIds.{text_at}
 use Rattle.gtfs_board.proofs.EventFacts.{IsPassing, any_at, event_lane, lane_event, lane_one, map_at, of_passing, passing, same_number, same_row, service_within, there_some, trip_back}

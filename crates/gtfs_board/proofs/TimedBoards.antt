@@ -1,11 +1,10 @@
 -- A board of a feed under a choice of times, by the lemmas of any feed. What it shows is that of the rows as they are given.
-use Rattle.std.proofs.Common.{◌≡◌, ◌∙◌, ◌+◌, ◌*◌, ◌≤◌, ◌<◌, ℕ, zero, suc, ℤ, Bool, true, false, List, [], ◌∷◌, inl, inr, map, length, Option, Some, refl, sym, ap, subst, arith}
+use Rattle.std.proofs.Common.{◌≡◌, ◌∙◌, ◌+◌, ◌≤◌, ◌<◌, ℕ, zero, suc, ℤ, Bool, true, false, List, [], ◌∷◌, inl, inr, map, length, Option, Some, refl, sym, ap, subst, arith}
 use Rattle.std.specs.Prelude.{pos, ◌+ℤ◌, ◌-ℤ◌, All, if◌then◌else◌, slice_get}
 use Rattle.std.specs.List.{AllByRecursion, enumerate_from, filter}
 use Rattle.std.proofs.lemmas.Int.{ints}
 use Rattle.std.proofs.lemmas.List.Elements.{All-from_recursion}
 use Rattle.std.proofs.lemmas.Option.{same_Some as some_is}
-use Rattle.gtfs_days.specs.Service.{service_days}
 use Rattle.gtfs_days.specs.Zone.{zone_origin}
 use Rattle.gtfs_days.specs.declared.zone.Zone.{Zone}
 use Rattle.gtfs_rows.specs.Content.{Content}
@@ -23,21 +22,21 @@ use Rattle.gtfs_times.specs.declared.times.Times.{Times}
 use Rattle.gtfs_times.specs.declared.times.Times.TheVariants as times
 use Rattle.gtfs_times.proofs.FilledContent.{sound-timed}
 use Rattle.gtfs_times.proofs.TimedContent.{content-timed}
-use Rattle.gtfs_board.specs.Board.{keys_of, start_of}
+use Rattle.gtfs_board.specs.Board.{StepCount, keys_of, start_of}
 use Rattle.gtfs_board.specs.CandidateKeys.{key_among}
 use Rattle.gtfs_board.specs.Floors.{IsNumbered, is_from}
 use Rattle.gtfs_board.specs.LaneDays.{AreTimely, all_departures, departures_on}
 use Rattle.gtfs_board.specs.Opening.{IsOpen, IsOpened, board_value}
 use Rattle.gtfs_board.specs.Showing.{IsOfFeed, candidate_key, listed_in, candidate_times}
 use Rattle.gtfs_board.specs.Shown.{IsShown}
-use Rattle.gtfs_board.specs.declared.merge.candidate.Candidate.{Candidate}
+use Rattle.gtfs_board.specs.declared.upcoming.candidate.Candidate.{Candidate}
 use Rattle.gtfs_board.specs.declared.span.Span.{Span}
-use Rattle.gtfs_board.specs.merge.Candidates as merge
-use Rattle.gtfs_board.specs.merge.Candidates.{MergeValue, candidate_lt, rest_above}
-use Rattle.gtfs_board.specs.merge.Order.{Each, In, AscendsBy}
+use Rattle.gtfs_board.specs.upcoming.Candidates as waiting
+use Rattle.gtfs_board.specs.upcoming.Candidates.{UpcomingValue, candidate_lt, rest_above, steps_so_far}
+use Rattle.gtfs_board.specs.upcoming.Order.{Each, In, AscendsBy}
 use Rattle.gtfs_board.proofs.Candidates.{candidates_strict}
 use Rattle.gtfs_board.proofs.EventFacts.{map_at}
-use Rattle.gtfs_board.proofs.Opened.{board_left, keys_listed, of_feed, queued_is, reach_is, shown-at}
+use Rattle.gtfs_board.proofs.Opened.{board_left, keys_listed, of_feed, queued_is, shown-at, steps_are}
 use Rattle.gtfs_board.proofs.Rests.{ascending-in_order, filter-in, in_order-in}
 use Rattle.gtfs_board.proofs.StopBoards.{ids_ascend, traced}
 use Rattle.gtfs_board.proofs.TimedRows.{as-many}
@@ -122,17 +121,16 @@ module _ (choice : Times) (p : Parts) (sound : IsSoundParts p) (s : List ℕ) (l
 
     -- ---- the board as it was opened
 
-    pub opened_board : (span : Span) (after : Option Key) (floor : Candidate) (v : MergeValue) → end ≡ span.until -ℤ pos 1
+    pub opened_board : (span : Span) (after : Option Key) (floor : Candidate) (v : UpcomingValue) → end ≡ span.until -ℤ pos 1
         → v.rest ≡ rest_above all floor
         → ((c : Candidate) → IsNumbered p (length (lanes_of lanes)) c → candidate_lt floor c ≡ is_from p span.from after c)
         → lanes.greatest ≡ latest f s → floor.instant ≡ start_of span.from after
-        → merge.HasSettings (length (lanes_of lanes)) lanes.greatest floor.instant end service_days v → merge.IsQueued v → v.steps ≤ v.lanes * merge.reach v
+        → waiting.HasSettings (length (lanes_of lanes)) lanes.greatest floor.instant end v → waiting.IsQueued v → v.steps ≤ (steps_so_far v).for_days
         → IsOpen p v × IsOpened choice (content_of_parts p) zone s span after (board_value p zone v)
     opened_board span after floor v ends rest above greatest start settings queued steps =
         let kept : IsOpen p v = record {
           of_feed = subst (Each (IsOfFeed p)) (sym rest) (each_in (IsOfFeed p) (rest_above all floor) (λ c there. of-feed c (in-rest all floor c there)));
           ascending = subst (AscendsBy candidate_lt) (sym rest) (ascending-in_order candidates_strict (filter (candidate_lt floor) all));
-          days = settings.4;
         } in
         let left = board_left q sound-q s lanes are-q zone end span.from span.until after floor ends
         (λ c known. above c (record { trip = known.trip; lane = known.lane; day = known.day })) in
@@ -147,13 +145,13 @@ module _ (choice : Times) (p : Parts) (sound : IsSoundParts p) (s : List ℕ) (l
                 (each-shown (content_of_parts p) p (rest_above all floor) (λ c there. shown c (in-rest all floor c there))));
             queued = queued_is p zone v (ids_ascend q sound-q s lanes are-q (zone_origin zone) end) kept queued;
             settings = record {
-              lanes = settings.0 ∙ are.counted;
-              latest = settings.1 ∙ greatest;
-              start = settings.2 ∙ start;
-              until = last_of v.end end span.until settings.3 ends;
+              lanes = settings.lanes ∙ are.counted;
+              latest = settings.latest ∙ greatest;
+              start = settings.start ∙ start;
+              until = last_of v.end end span.until settings.end ends;
               zone = refl;
             };
-            steps = subst (λ n. v.steps ≤ v.lanes * n) (sym (reach_is p zone v settings.4)) steps;
+            steps = subst (λ (t : StepCount). v.steps ≤ t.for_days) (steps_are p zone v) steps;
           },
         )
       where

@@ -24,7 +24,7 @@ use Rattle.gtfs_rows.specs.Runs.{first_leaves, is_departure_row, is_run, passes_
 use Rattle.gtfs_runs.specs.declared.event.Event.{Event}
 use Rattle.gtfs_runs.proofs.TripTimes.{at_most as most_left}
 use Rattle.gtfs_board.specs.LaneDays.{AreTimely, lane_at, no_lane}
-use Rattle.gtfs_board.specs.merge.Order.{In}
+use Rattle.gtfs_board.specs.upcoming.Order.{In}
 use Rattle.gtfs_board.proofs.EventFacts.{IsPassing, any_at, at_in, lane_event, map_at, passing, trip_back}
 use Rattle.gtfs_board.proofs.LaneDays.{day_there, in-flat_map, in-map, in-range}
 use Rattle.gtfs_board.proofs.Rests.{in-filter}

@@ -61,13 +61,17 @@ first_instant until (d ∷ ds) = d.key.instant
 abbrev pub position : BoardValue → ℤ
 position b = first_instant b.until b.rest
 
--- how many service days may have been opened for a board that looks from an instant on and stands at another
-abbrev pub may_be_opened : ℕ → ℤ → ℤ → ℤ → Bool
-may_be_opened latest start at d =
-    int_le (start -ℤ pos (latest + origin_distance)) (d *ℤ pos 86_400) && int_le (d *ℤ pos 86_400) (at +ℤ pos origin_distance)
+-- no day that begins before this has a departure at or above an instant
+abbrev pub low_mark : ℕ → ℤ → ℤ
+low_mark latest start = start -ℤ pos (latest + origin_distance)
 
+-- a service day that may have been opened for a board that looks from a low mark on and stands at an instant
+abbrev pub may_be_opened : ℤ → ℤ → ℤ → Bool
+may_be_opened low at d = int_le low (d *ℤ pos 86_400) && int_le (d *ℤ pos 86_400) (at +ℤ pos origin_distance)
+
+-- how many those are
 abbrev pub reach : ℕ → ℤ → ℤ → ℕ
-reach latest start at = count_by (may_be_opened latest start at) service_days
+reach latest start at = count_by (may_be_opened (low_mark latest start) at) service_days
 
 -- how many steps the days may have cost that may have been opened: each one a lane
 abbrev pub steps_for_days : BoardValue → ℕ

@@ -5,7 +5,7 @@ use Rattle.gtfs_rows.specs.Order.{Ascends}
 use Rattle.gtfs_rows.specs.Views.{text_of_number}
 use Rattle.gtfs_field.specs.TextOrder.{text_cmp}
 use Rattle.gtfs_rows.specs.Key.{Key, key_cmp}
-use Rattle.gtfs_board.specs.declared.merge.candidate.Candidate.{Candidate}
+use Rattle.gtfs_board.specs.declared.upcoming.candidate.Candidate.{Candidate}
 
 -- the key of a candidate among trips with these ids
 abbrev pub key_among : List (List ℕ) → Candidate → Key

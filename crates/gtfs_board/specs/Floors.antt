@@ -5,7 +5,7 @@ use Rattle.gtfs_rows.specs.declared.parts.Parts.{Parts}
 use Rattle.gtfs_rows.specs.Departures.{is_above}
 use Rattle.gtfs_rows.specs.Key.{Key}
 use Rattle.gtfs_board.specs.Showing.{candidate_key}
-use Rattle.gtfs_board.specs.declared.merge.candidate.Candidate.{Candidate}
+use Rattle.gtfs_board.specs.declared.upcoming.candidate.Candidate.{Candidate}
 
 -- a departure of the feed, as far as a floor compares with it
 pub record IsNumbered (p : Parts) (lanes : ℕ) (c : Candidate) : Type 0 where

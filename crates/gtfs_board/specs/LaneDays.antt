@@ -9,7 +9,7 @@ use Rattle.gtfs_runs.specs.Order.{event_cmp}
 use Rattle.gtfs_runs.specs.StopLanes.{LaneValue, StopLanesValue, filled_value, lanes_of, list_value, period_value}
 use Rattle.gtfs_runs.specs.declared.event.Event.{Event}
 use Rattle.gtfs_rows.specs.Departures.{Origins}
-use Rattle.gtfs_board.specs.declared.merge.candidate.Candidate.{Candidate}
+use Rattle.gtfs_board.specs.declared.upcoming.candidate.Candidate.{Candidate}
 use Rattle.gtfs_board.specs.declared.service_days.any_lane.AnyLane.{AnyLane}
 use Rattle.gtfs_board.specs.declared.service_days.any_lane.AnyLane.TheVariants as kind
 

@@ -1,5 +1,6 @@
 pub mod Board
 pub mod CandidateKeys
+pub mod Days
 pub mod Floors
 pub mod KeyTexts
 pub mod LaneDays
@@ -16,4 +17,4 @@ pub mod Shown
 pub mod Span
 pub mod Timetable
 pub mod Words
-pub mod merge
+pub mod upcoming

@@ -1,6 +1,5 @@
 -- A board that was opened.
 use Rattle.std.specs.Prelude.{◌≡◌, ◌≤◌, ℕ, List, All, Option, map, pos, ◌+ℤ◌}
-use Rattle.gtfs_days.specs.Service.{service_days}
 use Rattle.gtfs_days.specs.Zone.{zone_origin}
 use Rattle.gtfs_days.specs.declared.zone.Zone.{Zone}
 use Rattle.gtfs_rows.specs.Content.{Content}
@@ -12,13 +11,13 @@ use Rattle.gtfs_rows.specs.Key.{Key}
 use Rattle.gtfs_board.specs.Showing.{IsOfFeed, candidate_key, listed_in}
 use Rattle.gtfs_board.specs.Shown.{IsShown}
 use Rattle.gtfs_board.specs.declared.span.Span.{Span}
-use Rattle.gtfs_board.specs.merge.Candidates.{MergeValue, candidate_lt}
-use Rattle.gtfs_board.specs.merge.Order.{Each, AscendsBy}
+use Rattle.gtfs_board.specs.upcoming.Candidates.{UpcomingValue, candidate_lt}
+use Rattle.gtfs_board.specs.upcoming.Order.{Each, AscendsBy}
 use Rattle.gtfs_times.specs.Filling.{timed}
 use Rattle.gtfs_times.specs.declared.times.Times.{Times}
 
 -- what contracts see of a board, from the candidates that are left
-abbrev pub board_value : Parts → Zone → MergeValue → BoardValue
+abbrev pub board_value : Parts → Zone → UpcomingValue → BoardValue
 board_value p z v = record {
   rest = map (listed_in p) v.rest;
   queue = map (candidate_key p) v.queue;
@@ -31,10 +30,9 @@ board_value p z v = record {
 }
 
 -- what a board keeps: its candidates are departures of the feed, in order
-pub record IsOpen (p : Parts) (v : MergeValue) : Type 0 where
+pub record IsOpen (p : Parts) (v : UpcomingValue) : Type 0 where
   pub of_feed : Each (IsOfFeed p) v.rest
   pub ascending : AscendsBy candidate_lt v.rest
-  pub days : v.days ≡ service_days
 
 -- with what a board was opened, for a stop of a feed in a zone
 pub record HasSettings (f : Content) (z : Zone) (s : List ℕ) (span : Span) (after : Option Key) (b : BoardValue) : Type 0 where

@@ -12,7 +12,7 @@ use Rattle.gtfs_rows.specs.Key.{Key}
 use Rattle.gtfs_board.specs.Lines.{Listed}
 use Rattle.gtfs_board.specs.Shown.{headsign, mark_of, route_name}
 use Rattle.gtfs_board.specs.declared.departure.Mark.TheVariants as mark
-use Rattle.gtfs_board.specs.declared.merge.candidate.Candidate.{Candidate}
+use Rattle.gtfs_board.specs.declared.upcoming.candidate.Candidate.{Candidate}
 
 abbrev pub candidate_key : Parts → Candidate → Key
 candidate_key p c = key_among (trip_ids p) c

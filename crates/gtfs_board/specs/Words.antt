@@ -60,7 +60,7 @@ pub use Rattle.gtfs_board.specs.Board.{step_count}
 -- while so many departures were taken, each cost one step at most, beside the steps for days
 pub use Rattle.gtfs_board.specs.Board.{AreStepsWithin}
 -- how many departures an answer has: one or none
-pub use Rattle.gtfs_board.specs.merge.Candidates.{taken}
+pub use Rattle.gtfs_board.specs.upcoming.Candidates.{taken}
 -- ---- `write_page`: a page of a board
 
 -- the lines of the first departures went out, at most the limit, and fewer only where nothing is left

@@ -11,16 +11,16 @@ ghost use Rattle.gtfs_board.specs.Lent.{listed, plain_key};
 ghost use Rattle.gtfs_board.specs.Opening.{HasSettings, IsOpened};
 ghost use Rattle.gtfs_board.specs.Shown.{IsShown};
 ghost use Rattle.gtfs_board.specs.Span.{is_span};
-ghost use Rattle.gtfs_board.specs.merge.Candidates.{taken};
+ghost use Rattle.gtfs_board.specs.upcoming.Candidates.{taken};
 ghost use Rattle.gtfs_times.specs.Filling.{timed};
 
 use crate::departure::Departure;
 use crate::floor::floor_of;
 use crate::key::Key;
-use crate::merge::{Merge, Source};
 use crate::service_days::Days;
 use crate::showing::departure_of;
 use crate::span::Span;
+use crate::upcoming::Upcoming;
 use gtfs_days::Zone;
 use gtfs_field::OutOfMemory;
 use gtfs_rows::StopNo;
@@ -64,14 +64,14 @@ impl From<OutOfMemory> for BoardFault {
 pub struct Board<'a> {
     feed: &'a Feed,
     zone: &'a Zone,
-    departures: Merge<Days<'a>>,
+    departures: Upcoming<'a>,
 }
 
 // A board is small itself:
 // beside what it is lent it has the lanes and the queue, and no other collection.
 const _: () = prove!(size_of::<Board<'static>>() == 296);
 
-const _: () = prove!(size_of::<Merge<Days<'static>>>() == 280);
+const _: () = prove!(size_of::<Upcoming<'static>>() == 280);
 
 const _: () = prove!(size_of::<Days<'static>>() == 104);
 
@@ -189,9 +189,15 @@ impl<'a> Board<'a> {
             (option_map (λ k. plain_key k.now) after.entry)) }
     {
         feed.soundness();
-        let days = Days::new(alloc, feed, zone, lanes, span.until - 1);
+        let days = Days {
+            alloc,
+            feed,
+            zone,
+            lanes,
+            end: span.until - 1,
+        };
         let floor = floor_of(feed, days.count(), span.from, after);
-        let departures = Merge::open(alloc, days, floor, steps)?;
+        let departures = Upcoming::open(days, floor, steps)?;
         Ok(Board {
             feed,
             zone,

@@ -9,11 +9,11 @@ ghost use Rattle.gtfs_board.specs.Floors.{IsNumbered, is_from};
 ghost use Rattle.gtfs_rows.specs.Key.{key_cmp};
 ghost use Rattle.gtfs_board.specs.Lent.{plain_key};
 ghost use Rattle.gtfs_board.specs.Showing.{candidate_key};
-ghost use Rattle.gtfs_board.specs.declared.merge.candidate.Candidate.{Candidate as CandidateValue};
-ghost use Rattle.gtfs_board.specs.merge.Candidates.{candidate_lt};
+ghost use Rattle.gtfs_board.specs.declared.upcoming.candidate.Candidate.{Candidate as CandidateValue};
+ghost use Rattle.gtfs_board.specs.upcoming.Candidates.{candidate_lt};
 
 use crate::key::Key;
-use crate::merge::Candidate;
+use crate::upcoming::Candidate;
 use gtfs_runs::{Feed, trips_below};
 
 // The floor of a board from an instant on, above a key if there is one. It belongs to none of so

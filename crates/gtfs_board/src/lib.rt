@@ -30,13 +30,13 @@ mod floor;
 mod key;
 mod law;
 mod line;
-mod merge;
 mod page;
 mod pieces;
 mod service_days;
 mod sheet;
 mod showing;
 mod span;
+mod upcoming;
 
 pub use board::{Board, BoardFault};
 pub use departure::{Departure, Mark};

@@ -1,62 +1,136 @@
 //! The departures of the lanes of a stop, day by day.
-ghost use Rattle.std.specs.Prelude.{◌≡◌, ◌<◌, ◌≤◌, ◌+◌, ◌-◌, ℤ, false, length, pos, negsuc, ◌+ℤ◌, ◌≤ℤ◌, ◌<ℤ◌, find, true, IsTrue, None, Some, option_map, slice_get, if◌then◌else◌};
-ghost use Rattle.gtfs_days.specs.Service.{first_service_day, last_service_day, service_days};
+ghost use Rattle.std.specs.Prelude.{◌≡◌, ◌<◌, ◌≤◌, ◌+◌, ◌-◌, ℕ, ℤ, [], length, pos, negsuc, ◌+ℤ◌, ◌≤ℤ◌, ◌<ℤ◌, false, true, IfOk, IsTrue, None, Some, option_map, slice_get, if◌then◌else◌};
+ghost use Rattle.gtfs_days.specs.Service.{first_service_day, last_service_day};
 ghost use Rattle.gtfs_days.specs.Zone.{zone_origin};
-ghost use Rattle.gtfs_runs.specs.Order.{is_above_moment, is_later};
 ghost use Rattle.gtfs_runs.specs.StopLanes.{lanes_of};
-ghost use Rattle.gtfs_board.specs.LaneDays.{AreAscending, AreTimely, HaveServices, any_value, departing, departures_on, all_departures, ends_by, event_of, lane_at, serves_on};
-ghost use Rattle.gtfs_board.specs.merge.Candidates.{IsAside, first_above};
+ghost use Rattle.gtfs_board.specs.LaneDays.{AreAscending, AreTimely, HaveServices, any_value, departing, ends_by, event_of, lane_at, serves_on};
 
 mod any_lane;
 mod seeking;
 
-use crate::merge::{Candidate, Source};
 use crate::service_days::any_lane::AnyLane;
+use crate::upcoming::Candidate;
 use gtfs_days::{FIRST_SERVICE_DAY, LAST_SERVICE_DAY, Service, Zone};
 use gtfs_field::{Day, OutOfMemory};
 use gtfs_rows::TripNo;
-use gtfs_runs::{Event, Feed, Moment, Steps, StopLanes};
+use gtfs_runs::{Event, Feed, Steps, StopLanes};
 use seeking::moment_from;
 use std::alloc::Global;
 
 // The departures of the lanes of a stop on each service day, up to an instant.
 #[derive(Drop)]
 pub(crate) struct Days<'a> {
-    alloc: Global,
-    feed: &'a Feed,
-    zone: &'a Zone,
+    pub alloc: Global,
+    pub feed: &'a Feed,
+    pub zone: &'a Zone,
     // First the lanes of lists, then those of periods, and then those with a time that was filled.
-    lanes: StopLanes,
+    pub lanes: StopLanes,
     // The last instant.
-    end: i64,
-    ghost served: { HaveServices feed.now lanes },
-    ghost ascending: { AreAscending lanes },
-    ghost timely: { AreTimely lanes },
+    pub end: i64,
+    pub ghost served: { HaveServices feed.now lanes },
+    pub ghost ascending: { AreAscending lanes },
+    pub ghost timely: { AreTimely lanes },
 }
 
-impl<'a> Days<'a> {
-    // The departures of these lanes of the feed that lie at or before an instant.
-    pub(crate) fn new(
-        alloc: Global,
-        feed: &'a Feed,
-        zone: &'a Zone,
-        lanes: StopLanes,
-        end: i64,
-    ) -> Days<'a>
-        requires served { HaveServices feed.now lanes }
-        requires ascending { AreAscending lanes }
-        requires timely { AreTimely lanes }
-        ensures feed { result.feed.now ≡ feed.now }
-        ensures zone { result.zone.now ≡ zone.now }
-        ensures lanes { result.lanes ≡ lanes }
-        ensures end { result.end ≡ end }
+impl Days<'_> {
+    ghost use Rattle.gtfs_board.specs.Days.{count_of, events_of, serves_in};
+    ghost use Rattle.gtfs_board.specs.upcoming.Candidates.{IsAside, first_above, slot_of};
+    ghost use Rattle.gtfs_board.specs.upcoming.Order.{In};
+
+    // How many lanes there are.
+    pub(crate) fn count(&self) -> usize
+        ensures { result ≡ count_of self.now }
     {
-        Days {
-            alloc,
-            feed,
-            zone,
-            lanes,
-            end,
+        self.lanes.lists().len() + self.lanes.periods().len() + self.lanes.filled().len()
+    }
+
+    // The first day from this one on on which a service of the lanes runs:
+    // the one after the last where there is none.
+    pub(crate) fn next_day(&self, day: i32) -> i32
+        requires { day ≤ℤ (last_service_day +ℤ pos 1) }
+        ensures up { day ≤ℤ result }
+        ensures within { result ≤ℤ (last_service_day +ℤ pos 1) }
+        ensures skips { (i : ℕ) (d : ℤ) → day ≤ℤ d → d <ℤ result → events_of self.now i d ≡ [] }
+    {
+        let mut first = LAST_SERVICE_DAY + 1;
+        for lane in 0..self.count() {
+            // Lanes of one service stand together, so most services are asked once.
+            if self.repeats_service(lane) {
+                continue;
+            }
+            first = first.min(self.next_active(lane, day));
+            // No day comes earlier.
+            if first == day {
+                return day;
+            }
+        }
+        first
+    }
+
+    // The origin of a service day, which its lanes share.
+    pub(crate) fn origin(&self, day: i32) -> Result<i64, OutOfMemory>
+        requires from { first_service_day ≤ℤ day }
+        requires to { day ≤ℤ last_service_day }
+        ensures { IfOk result (λ o. o ≡ zone_origin self.now.zone.now day) }
+    {
+        self.zone.origin(self.alloc, Day::from_number(day))
+    }
+
+    // Whether the service of a lane runs on a service day, where that is told of the lane before:
+    // lanes of one service stand together, so that most services are asked once.
+    pub(crate) fn serves(&self, lane: usize, day: i32, before: bool) -> bool
+        requires inside { lane < count_of self.now }
+        requires from { first_service_day ≤ℤ day }
+        requires to { day ≤ℤ last_service_day }
+        requires before { 0 < lane → before ≡ serves_in self.now (lane - 1) day }
+        ensures { result ≡ serves_in self.now lane day }
+    {
+        if !self.repeats_service(lane) {
+            return self.service(lane).active(Day::from_number(day));
+        }
+        before
+    }
+
+    // The first departure of a lane above a floor, on a day with this origin on which its service
+    // runs. The floor lies on an earlier day or belongs to no lane. It asks the lane once.
+    pub(crate) fn head(
+        &self,
+        lane: usize,
+        day: i32,
+        origin: i64,
+        floor: &Candidate,
+        steps: &mut Steps,
+    ) -> Option<Candidate>
+        requires inside { lane < count_of self.now }
+        requires aside { IsAside floor.now day (count_of self.now) }
+        requires runs { serves_in self.now lane day ≡ true }
+        requires origin { origin ≡ zone_origin self.now.zone.now day }
+        ensures first { result ≡ first_above floor.now (events_of self.now lane day) }
+        ensures steps { steps.new ≤ steps.old + 1 }
+    {
+        let moment = moment_from(floor, origin, day);
+        match self.lane(lane).first_above(self.feed, &moment, steps) {
+            Some(event) => self.by_end(departing(origin, day, lane, event)),
+            None => None,
+        }
+    }
+
+    // The departure after one, in its lane on its day. It may ask the lane once.
+    pub(crate) fn after(&self, departure: &Candidate, steps: &mut Steps) -> Option<Candidate>
+        requires { In departure.now (slot_of (events_of self.now) departure.now) }
+        ensures next { result
+            ≡ first_above departure.now (slot_of (events_of self.now) departure.now) }
+        ensures steps { steps.new ≤ steps.old + 1 }
+    {
+        // The event of a lane of one lies far away in memory, and no other comes after it.
+        if self.lane(departure.lane).is_single() {
+            return None;
+        }
+        let origin = departure.instant - i64::from(departure.at);
+        let lane = self.lane(departure.lane);
+        match lane.next(self.feed, &event_of(departure), steps) {
+            Some(event) => self.by_end(departing(origin, departure.day, departure.lane, event)),
+            None => None,
         }
     }
 
@@ -96,35 +170,6 @@ impl<'a> Days<'a> {
         lane > 0 && self.lane(lane).service().0 == self.lane(lane - 1).service().0
     }
 
-    // The first event of a lane above a position.
-    fn first_above(&self, lane: usize, moment: &Moment, steps: &mut Steps) -> Option<Event>
-        requires { lane < length (lanes_of self.now.lanes) }
-        ensures first { result
-            ≡ find (is_above_moment moment.now) (lane_at self.now.lanes lane).events }
-        ensures steps { steps.new ≤ steps.old + 1 }
-    {
-        self.lane(lane).first_above(self.feed, moment, steps)
-    }
-
-    // The first event of a lane above another.
-    fn next_after(&self, lane: usize, event: &Event, steps: &mut Steps) -> Option<Event>
-        requires { lane < length (lanes_of self.now.lanes) }
-        ensures next { result ≡ find (is_later event.now) (lane_at self.now.lanes lane).events }
-        ensures steps { steps.new ≤ steps.old + 1 }
-    {
-        self.lane(lane).next(self.feed, event, steps)
-    }
-
-    // Whether the service of a lane runs on a service day.
-    fn runs(&self, lane: usize, day: i32) -> bool
-        requires lane { lane < length (lanes_of self.now.lanes) }
-        requires from { first_service_day ≤ℤ day }
-        requires to { day ≤ℤ last_service_day }
-        ensures { result ≡ serves_on self.now.feed.now (lane_at self.now.lanes lane).service day }
-    {
-        self.service(lane).active(Day::from_number(day))
-    }
-
     // The first day from this one on on which the service of a lane runs:
     // the one after the last where there is none.
     fn next_active(&self, lane: usize, day: i32) -> i32
@@ -139,32 +184,6 @@ impl<'a> Days<'a> {
         match self.service(lane).next_active(from) {
             Some(next) => next.number(),
             None => LAST_SERVICE_DAY + 1,
-        }
-    }
-
-    // The first departure of a lane above a floor,
-    // on a day with this origin on which the service of the lane runs.
-    fn head_on(
-        &self,
-        lane: usize,
-        day: i32,
-        origin: i64,
-        floor: &Candidate,
-        steps: &mut Steps,
-    ) -> Option<Candidate>
-        requires inside { lane < length (lanes_of self.now.lanes) }
-        requires aside { IsAside floor.now day (length (lanes_of self.now.lanes)) }
-        requires runs { serves_on self.now.feed.now (lane_at self.now.lanes lane).service day
-            ≡ true }
-        requires origin { origin ≡ zone_origin self.now.zone.now day }
-        ensures first { result ≡ first_above floor.now (departures_on self.now.feed.now
-            (zone_origin self.now.zone.now) self.now.lanes self.now.end lane day) }
-        ensures steps { steps.new ≤ steps.old + 1 }
-    {
-        let moment = moment_from(floor, origin, day);
-        match self.first_above(lane, &moment, steps) {
-            Some(event) => self.by_end(departing(origin, day, lane, event)),
-            None => None,
         }
     }
 
@@ -208,101 +227,5 @@ fn event_of(departure: &Candidate) -> Event
         run: departure.run,
         seq: departure.sequence,
         row: departure.row,
-    }
-}
-
-impl Source for Days<'_> {
-    ghost count = { λ s. length (lanes_of s.lanes) };
-
-    ghost latest = { λ s. s.lanes.greatest };
-
-    ghost end = { λ s. s.end };
-
-    ghost first = { λ s. first_service_day };
-
-    ghost last = { λ s. last_service_day };
-
-    ghost days = { λ s. service_days };
-
-    ghost origins = { λ s. zone_origin s.zone.now };
-
-    ghost serves = { λ s i. serves_on s.feed.now (lane_at s.lanes i).service };
-
-    ghost events = { λ s. departures_on s.feed.now (zone_origin s.zone.now) s.lanes s.end };
-
-    ghost all = { λ s. all_departures s.feed.now (zone_origin s.zone.now) s.lanes s.end };
-
-    fn count(&self) -> usize {
-        self.lanes.lists().len() + self.lanes.periods().len() + self.lanes.filled().len()
-    }
-
-    fn latest(&self) -> u32 {
-        self.lanes.greatest()
-    }
-
-    fn end(&self) -> i64 {
-        self.end
-    }
-
-    fn first(&self) -> i32 {
-        FIRST_SERVICE_DAY
-    }
-
-    fn last(&self) -> i32 {
-        LAST_SERVICE_DAY
-    }
-
-    fn laws(&self) {
-        let _lanes = &self.lanes;
-    }
-
-    fn next_day(&self, day: i32) -> i32 {
-        let mut first = LAST_SERVICE_DAY + 1;
-        for lane in 0..self.count() {
-            // Lanes of one service stand together, so most services are asked once.
-            if self.repeats_service(lane) {
-                continue;
-            }
-            first = first.min(self.next_active(lane, day));
-            // No day comes earlier.
-            if first == day {
-                return day;
-            }
-        }
-        first
-    }
-
-    fn origin(&self, day: i32) -> Result<i64, OutOfMemory> {
-        self.zone.origin(self.alloc, Day::from_number(day))
-    }
-
-    fn serves(&self, lane: usize, day: i32, before: bool) -> bool {
-        if !self.repeats_service(lane) {
-            return self.runs(lane, day);
-        }
-        before
-    }
-
-    fn head(
-        &self,
-        lane: usize,
-        day: i32,
-        origin: i64,
-        floor: &Candidate,
-        steps: &mut Steps,
-    ) -> Option<Candidate> {
-        self.head_on(lane, day, origin, floor, steps)
-    }
-
-    fn after(&self, departure: &Candidate, steps: &mut Steps) -> Option<Candidate> {
-        // The event of a lane of one lies far away in memory, and no other comes after it.
-        if self.lane(departure.lane).is_single() {
-            return None;
-        }
-        let origin = departure.instant - i64::from(departure.at);
-        match self.next_after(departure.lane, &event_of(departure), steps) {
-            Some(event) => self.by_end(departing(origin, departure.day, departure.lane, event)),
-            None => None,
-        }
     }
 }

@@ -10,7 +10,7 @@ ghost use Rattle.gtfs_board.specs.Showing.{IsOfFeed, candidate_key, listed_in};
 
 use crate::departure::{Departure, Mark};
 use crate::key::Key;
-use crate::merge::Candidate;
+use crate::upcoming::Candidate;
 use gtfs_field::{Day, Text};
 use gtfs_rows::{Frequency, Route, StopNo, StopRow, Trip, TripNo};
 use gtfs_runs::Feed;

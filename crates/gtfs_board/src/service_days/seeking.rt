@@ -2,9 +2,9 @@ ghost use Rattle.std.specs.Prelude.{◌≡◌, ◌<◌, ◌^◌, ◌⊎◌, ◌<
 ghost use Rattle.gtfs_runs.specs.Order.{is_above_moment};
 ghost use Rattle.gtfs_runs.specs.declared.event.Event.{Event};
 ghost use Rattle.gtfs_board.specs.LaneDays.{departing};
-ghost use Rattle.gtfs_board.specs.merge.Candidates.{candidate_lt};
+ghost use Rattle.gtfs_board.specs.upcoming.Candidates.{candidate_lt};
 
-use crate::merge::Candidate;
+use crate::upcoming::Candidate;
 use gtfs_rows::TripNo;
 use gtfs_runs::Moment;
 

@@ -6,7 +6,7 @@ use Rattle.gtfs_columns.proofs.SiteFacts.{text_is}
 use Rattle.gtfs_rows.specs.Views.{text_of_number, trip_ids}
 use Rattle.gtfs_board.specs.CandidateKeys.{key_among}
 use Rattle.gtfs_board.specs.Lent.{plain_key}
-use Rattle.gtfs_board.specs.declared.merge.candidate.Candidate.{Candidate}
+use Rattle.gtfs_board.specs.declared.upcoming.candidate.Candidate.{Candidate}
 use Rattle.gtfs_runs.proofs.TripIds.{position_at, position_none, trip_ids_ascend}
 use Rattle.gtfs_board.proofs.Floors.{absent_lt, after_lt}
 use Rattle.gtfs_board.proofs.floor.floor_after.Goals as goal

@@ -1,7 +1,7 @@
 use Rattle.std.proofs.Common.{refl, arith, w64, negsuc}
 use Rattle.std.specs.Prelude.{◌<ℤ◌}
 use Rattle.std.proofs.lemmas.Int.{ints, to_z-of_z}
-use Rattle.gtfs_board.specs.declared.merge.candidate.Candidate.{Candidate}
+use Rattle.gtfs_board.specs.declared.upcoming.candidate.Candidate.{Candidate}
 use Rattle.gtfs_board.proofs.Floors.{before_lt}
 use Rattle.gtfs_board.proofs.floor.floor_before.Goals as goal
 

@@ -4,7 +4,7 @@ use Rattle.std.specs.Int.{saturate_signed}
 use Rattle.std.proofs.lemmas.Int.{to_z-of_z}
 use Rattle.gtfs_field.proofs.NumberFacts.{cases_int}
 use Rattle.gtfs_board.specs.LaneDays.{departing}
-use Rattle.gtfs_board.specs.merge.Candidates.{lane_cmp}
+use Rattle.gtfs_board.specs.upcoming.Candidates.{lane_cmp}
 use Rattle.gtfs_board.proofs.Moments.{apart_days, later_day, same_day, stands_for}
 use Rattle.gtfs_board.proofs.service_days.seeking.moment_from.Goals as goal
 
