@@ -21,7 +21,7 @@ use Rattle.std.proofs.lemmas.Map.Made.{AllPairs-from_IsDistinct, IsDistinct-from
 use Rattle.std.proofs.lemmas.Option.{get_or_from_slice_get, same_Some, slice_get-get_or, slice_get_within}
 use Rattle.gtfs_field.proofs.ListFacts.{pairs-from_map}
 use Rattle.gtfs_field.proofs.OrderingFacts.{equal}
-use Rattle.gtfs_columns.proofs.BoolFacts.{same_test}
+use Rattle.gtfs_schema.proofs.BoolFacts.{same_test}
 use Rattle.gtfs_advice.specs.Marks.{AreMarks}
 use Rattle.gtfs_advice.proofs.Marking.{AreMarksSoFar, all-marked, none-more, one-marked}
 

@@ -10,7 +10,7 @@ use Rattle.std.proofs.lemmas.List.Folds.{list_all-map}
 use Rattle.std.proofs.lemmas.Option.{same_Some, slice_get-get_or}
 use Rattle.gtfs_field.specs.TextOrder.{text_cmp}
 use Rattle.gtfs_field.proofs.ListFacts.{any_mapped, mapped_at, some_of}
-use Rattle.gtfs_columns.specs.Values.{if_both}
+use Rattle.gtfs_schema.specs.Values.{if_both}
 use Rattle.gtfs_rows.specs.Order.{Ascends}
 use Rattle.gtfs_rows.specs.Rows.{StopRow, Trip}
 use Rattle.gtfs_rows.specs.Runs.{first_leaves, is_timed}

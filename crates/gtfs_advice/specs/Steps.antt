@@ -1,6 +1,6 @@
 -- Words of this crate's inner contracts: rows with numbers in place of ids, as the code has them.
 use Rattle.std.specs.Prelude.{◌≡◌, ◌==◌, ◌&&◌, Bool, false, List, [], ◌∷◌, map, slice_index_or, Option, None, ℤ}
-use Rattle.gtfs_columns.specs.Values.{if_both}
+use Rattle.gtfs_schema.specs.Values.{if_both}
 use Rattle.gtfs_rows.specs.Choices.{drop_off_code, pickup_code}
 use Rattle.gtfs_rows.specs.NamedRows.{stop_named}
 use Rattle.gtfs_rows.specs.Rows.{Trip}

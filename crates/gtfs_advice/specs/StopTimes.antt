@@ -3,7 +3,7 @@
 use Rattle.std.specs.Prelude.{ℕ, ◌+◌, ◌-◌, ◌*◌, ◌==◌, ◌&&◌, Bool, false, if◌then◌else◌, nat_eq, nat_lt, List, [], ◌∷◌, length, take, drop, map, filter, bytes_eq, Option, None, ℤ, ◌-ℤ◌, unsigned_abs}
 use Rattle.std.specs.List.{last_or, list_all, list_any, range_with_len}
 use Rattle.std.specs.Option.{option_and_then}
-use Rattle.gtfs_columns.specs.Values.{if_both}
+use Rattle.gtfs_schema.specs.Values.{if_both}
 use Rattle.gtfs_rows.specs.Content.{Content}
 use Rattle.gtfs_rows.specs.Rows.{Stop, StopRow, Trip}
 use Rattle.gtfs_rows.specs.Runs.{first_leaves, is_timed}

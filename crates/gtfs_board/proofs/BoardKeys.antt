@@ -12,7 +12,7 @@ use Rattle.gtfs_rows.proofs.SameElements.{pairs-map}
 use Rattle.gtfs_rows.specs.Content.{Content}
 use Rattle.gtfs_rows.specs.Order.{Ascends}
 use Rattle.gtfs_field.specs.TextOrder.{text_cmp}
-use Rattle.gtfs_columns.proofs.BoolFacts.{same_test as same_tests}
+use Rattle.gtfs_schema.proofs.BoolFacts.{same_test as same_tests}
 use Rattle.gtfs_board.specs.CandidateKeys.{key_among}
 use Rattle.gtfs_rows.specs.Departures.{IsBoard, Origins, is_listed, is_member}
 use Rattle.gtfs_rows.specs.Key.{Key, key_cmp}

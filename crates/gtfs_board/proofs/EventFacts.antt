@@ -12,8 +12,8 @@ use Rattle.std.specs.declared.cmp.Ordering.{Ordering}
 use Rattle.std.specs.declared.cmp.Ordering.TheVariants.{Less, Equal}
 use Rattle.gtfs_field.proofs.OrderingFacts.{equal}
 use Rattle.gtfs_field.specs.TextOrder.{text_cmp}
-use Rattle.gtfs_columns.proofs.SiteFacts.{text_is, text_itself}
-use Rattle.gtfs_columns.specs.Values.{if_there}
+use Rattle.gtfs_schema.proofs.SiteFacts.{text_is, text_itself}
+use Rattle.gtfs_schema.specs.Values.{if_there}
 use Rattle.gtfs_rows.specs.Content.{Content}
 use Rattle.gtfs_rows.specs.Order.{Ascends}
 use Rattle.gtfs_rows.specs.Rows.{StopRow, Trip}

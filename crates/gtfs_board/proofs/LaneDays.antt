@@ -7,7 +7,7 @@ use Rattle.std.proofs.lemmas.Int.{ints, clamps, to_z-of_z}
 use Rattle.std.proofs.lemmas.Bool.{cases_Bool, cases_lt, true≢false, and_parts}
 use Rattle.std.proofs.lemmas.List.{get_or_past, length-map}
 use Rattle.jiff_core.specs.Calendar.{IsWithin}
-use Rattle.gtfs_columns.specs.Values.{if_there}
+use Rattle.gtfs_schema.specs.Values.{if_there}
 use Rattle.gtfs_days.proofs.Clocks.{zone_origin-near}
 use Rattle.gtfs_days.specs.Service.{IsFirst, ServiceDates, is_active, is_service_day, first_service_day, last_service_day, service_days}
 use Rattle.gtfs_days.specs.Zone.{zone_origin}

@@ -16,7 +16,7 @@ use Rattle.gtfs_field.proofs.NumberFacts.{int_lt-false, int_lt-true, le-int_le}
 use Rattle.gtfs_rows.specs.declared.stop.Stop.{Stop as StopRowOf}
 use Rattle.gtfs_runs.proofs.TripIds.{position_at, position_none, text_at, turned}
 use Rattle.gtfs_board.specs.LaneDays.{serves_on}
-use Rattle.gtfs_columns.proofs.SiteFacts.{text_is, text_itself}
+use Rattle.gtfs_schema.proofs.SiteFacts.{text_is, text_itself}
 use Rattle.gtfs_days.specs.Service.{is_service_day}
 use Rattle.gtfs_days.specs.Zone.{zone_origin}
 use Rattle.gtfs_days.specs.declared.zone.Zone.{Zone}

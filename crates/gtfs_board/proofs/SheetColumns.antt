@@ -17,10 +17,10 @@ use Rattle.gtfs_field.proofs.OrderingFacts.{tied}
 use Rattle.gtfs_field.proofs.ListFacts.{some_of}
 use Rattle.gtfs_field.specs.TextOrder.{text_cmp}
 use Rattle.gtfs_table.proofs.PartFacts.{length-parts}
-use Rattle.gtfs_columns.proofs.SiteFacts.{text_is, text_itself}
-use Rattle.gtfs_columns.specs.Values.{if_there}
+use Rattle.gtfs_schema.proofs.SiteFacts.{text_is, text_itself}
+use Rattle.gtfs_schema.specs.Values.{if_there}
 use Rattle.gtfs_days.specs.Service.{ServiceDates, is_active}
-use Rattle.gtfs_columns.proofs.BoolFacts.{same_test as same_tests}
+use Rattle.gtfs_schema.proofs.BoolFacts.{same_test as same_tests}
 use Rattle.gtfs_rows.proofs.Held.{text_antisymmetric}
 use Rattle.gtfs_rows.proofs.SameElements.{pairs-map}
 use Rattle.gtfs_rows.specs.Order.{Ascends}

@@ -14,8 +14,8 @@ use Rattle.std.proofs.lemmas.List.{length-map}
 use Rattle.std.proofs.lemmas.Option.{slice_get_within}
 use Rattle.std.proofs.lemmas.Simd.{map-map}
 use Rattle.gtfs_field.proofs.OrderingFacts.{equal, tied}
-use Rattle.gtfs_columns.proofs.SiteFacts.{text_is, text_itself}
-use Rattle.gtfs_columns.specs.Values.{if_there}
+use Rattle.gtfs_schema.proofs.SiteFacts.{text_is, text_itself}
+use Rattle.gtfs_schema.specs.Values.{if_there}
 use Rattle.gtfs_rows.proofs.NumberFacts.{trip_route}
 use Rattle.gtfs_rows.proofs.SoundOrder.{in_order}
 use Rattle.gtfs_rows.proofs.Held.{text_antisymmetric}

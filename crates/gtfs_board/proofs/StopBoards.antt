@@ -10,8 +10,8 @@ use Rattle.std.proofs.lemmas.Option.{get_or_from_slice_get, same_Some as some_is
 use Rattle.std.proofs.lemmas.Map.Keys.{any_passes_from_place as at_any}
 use Rattle.gtfs_field.proofs.NumberFacts.{eq-int_eq, int_eq-true, int_le-true, le-int_le}
 use Rattle.gtfs_field.proofs.ListFacts.{mapped_at as at_map}
-use Rattle.gtfs_columns.proofs.SiteFacts.{text_is, text_itself}
-use Rattle.gtfs_columns.specs.Values.{if_there}
+use Rattle.gtfs_schema.proofs.SiteFacts.{text_is, text_itself}
+use Rattle.gtfs_schema.specs.Values.{if_there}
 use Rattle.gtfs_days.specs.Service.{is_active}
 use Rattle.gtfs_rows.proofs.SoundOrder.{in_order}
 use Rattle.gtfs_rows.specs.Trips.{stop_rows_by_trip, frequencies_by_trip}

@@ -7,7 +7,7 @@ use Rattle.std.proofs.lemmas.List.{get_or-map, length-map}
 use Rattle.std.proofs.lemmas.List.FromFn.{get_or-map-range_with_len, length-map-range_with_len}
 use Rattle.std.proofs.lemmas.Option.{slice_get_within}
 use Rattle.std.proofs.lemmas.Simd.{map-map}
-use Rattle.gtfs_columns.specs.Values.{if_there}
+use Rattle.gtfs_schema.specs.Values.{if_there}
 use Rattle.gtfs_field.proofs.ListFacts.{some_of}
 use Rattle.gtfs_table.proofs.PartFacts.{length-parts}
 use Rattle.gtfs_rows.specs.Content.{Content}

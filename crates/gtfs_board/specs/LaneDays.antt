@@ -1,7 +1,7 @@
 -- The departures of the lanes of a stop on each service day, up to an instant.
 use Rattle.std.specs.Prelude.{◌<◌, ◌≤◌, ℕ, Bool, cond, ℤ, pos, ◌+ℤ◌, int_le, List, [], All, length, map, slice_get, slice_index_or}
 use Rattle.std.specs.List.{filter, flat_map, range_with_len}
-use Rattle.gtfs_columns.specs.Values.{if_there}
+use Rattle.gtfs_schema.specs.Values.{if_there}
 use Rattle.gtfs_days.specs.Service.{is_active, service_days}
 use Rattle.gtfs_rows.specs.Order.{Ascends}
 use Rattle.gtfs_rows.specs.declared.parts.Parts.{Parts}

@@ -8,10 +8,10 @@ use Rattle.std.proofs.lemmas.Grind.{common_steps}
 use Rattle.std.proofs.lemmas.List.{get_or-map, length-map}
 use Rattle.std.proofs.lemmas.List.Sums.{count_by_more_no, count_by_more_yes}
 use Rattle.gtfs_table.specs.Tables.{Dataset}
-use Rattle.gtfs_columns.specs.Problems.{Problem}
-use Rattle.gtfs_columns.specs.View.{problem_of}
-use Rattle.gtfs_columns.specs.declared.problem.Problem.{Problem as Lent}
-use Rattle.gtfs_columns.specs.steps.ProblemOrder.{problem_equal}
+use Rattle.gtfs_schema.specs.Problems.{Problem}
+use Rattle.gtfs_schema.specs.View.{problem_of}
+use Rattle.gtfs_schema.specs.declared.problem.Problem.{Problem as Lent}
+use Rattle.gtfs_schema.specs.steps.ProblemOrder.{problem_equal}
 use Rattle.gtfs_cli.specs.CheckLines.{count_alike, is_alike, kind_of, shown_line}
 use Rattle.gtfs_cli.specs.Firsts.{firsts, if_counted}
 use Rattle.gtfs_cli.specs.LentKinds.{held_for, if_any, lent_cmp}

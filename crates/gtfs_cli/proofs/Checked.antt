@@ -1,8 +1,8 @@
 -- From the parts of a check to what is printed of the folder that the words name.
 use Rattle.std.proofs.Common.{◌≡◌, ◌∙◌, ap, sym, refl, subst, ℕ, ◌+◌, ◌&&◌, Bool, true, false, not, List, [], ◌∷◌, ◌++◌, append-nil, length, Option, None, Some, Result, Ok, Err, ℤ, arith, inl, inr}
 use Rattle.std.specs.Prelude.{count_by, if◌then◌else◌, option_map, IsErrAnd}
-use Rattle.gtfs_columns.specs.Codes.{is_error}
-use Rattle.gtfs_columns.specs.Problems.{passes, IsReport, Passes, Problem}
+use Rattle.gtfs_schema.specs.Codes.{is_error}
+use Rattle.gtfs_schema.specs.Problems.{passes, IsReport, Passes, Problem}
 use Rattle.gtfs_devices.specs.Folder.{Store}
 use Rattle.gtfs_table.specs.Tables.{Dataset}
 use Rattle.gtfs_rows.specs.Content.{Content}

@@ -4,8 +4,8 @@ use Rattle.std.specs.Prelude.{count_by, decimal}
 use Rattle.std.specs.List.{list_all}
 use Rattle.std.proofs.lemmas.Grind.{common_steps}
 use Rattle.std.proofs.lemmas.List.Sums.{sum_by-cons}
-use Rattle.gtfs_columns.specs.Codes.{is_error}
-use Rattle.gtfs_columns.specs.Problems.{Problem, passes}
+use Rattle.gtfs_schema.specs.Codes.{is_error}
+use Rattle.gtfs_schema.specs.Problems.{Problem, passes}
 use Rattle.gtfs_rules.specs.Report.{counts_line}
 use Rattle.gtfs_cli.specs.CheckLines.{counts_text}
 

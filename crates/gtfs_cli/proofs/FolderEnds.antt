@@ -9,7 +9,7 @@ use Rattle.gtfs_table.specs.Reading.{dataset_of, kept_files, HoldsWithin}
 use Rattle.gtfs_table.specs.Tables.{Dataset}
 use Rattle.gtfs_table.specs.declared.file.File.{File}
 use Rattle.gtfs_table.specs.declared.file.File.TheVariants as file
-use Rattle.gtfs_columns.specs.Problems.{Passes}
+use Rattle.gtfs_schema.specs.Problems.{Passes}
 use Rattle.gtfs_cli.specs.HeldFiles.{HoldsErrors, HoldsKeptFile, HoldsPassing, HoldsTables, LacksFeed}
 use Rattle.gtfs_cli.specs.Judging.{feed, tables}
 use Rattle.gtfs_cli.specs.Messages.{line_of}

@@ -4,7 +4,7 @@ use Rattle.std.specs.Prelude.{not}
 use Rattle.std.proofs.lemmas.Option.{same_Some}
 use Rattle.gtfs_devices.specs.Folder.{Store}
 use Rattle.gtfs_table.specs.Tables.{Dataset}
-use Rattle.gtfs_columns.specs.Problems.{Problem, passes, IsReport}
+use Rattle.gtfs_schema.specs.Problems.{Problem, passes, IsReport}
 use Rattle.gtfs_commands.specs.Words.{CheckTexts}
 use Rattle.gtfs_rules.proofs.ReportLaws.{one_report}
 use Rattle.gtfs_cli.specs.CheckOptions.{judged_check, lacks_advise, needed, IsLack}

@@ -13,7 +13,7 @@ use Rattle.gtfs_table.specs.declared.file.File.{File}
 use Rattle.gtfs_table.specs.declared.file.File.TheVariants as file
 use Rattle.gtfs_devices.proofs.FolderLemmas.{get-insert-same}
 use Rattle.gtfs_field.proofs.TextOrderFacts.{texts_total}
-use Rattle.gtfs_columns.specs.Problems.{Passes}
+use Rattle.gtfs_schema.specs.Problems.{Passes}
 use Rattle.gtfs_rows.specs.Content.{Content}
 use Rattle.gtfs_rows.specs.Reading.{content_of}
 use Rattle.gtfs_rows.specs.Written.{written, written_beside}

@@ -2,8 +2,8 @@
 use Rattle.std.specs.Prelude.{ℕ, ◌==◌, Bool, not, if◌then◌else◌, List, ◌++◌, map, count_by, codes, decimal, Option, None}
 use Rattle.gtfs_field.specs.Canonical.{date_text}
 use Rattle.gtfs_table.specs.Files.{file_name}
-use Rattle.gtfs_columns.specs.Codes.{is_error}
-use Rattle.gtfs_columns.specs.Problems.{Problem}
+use Rattle.gtfs_schema.specs.Codes.{is_error}
+use Rattle.gtfs_schema.specs.Problems.{Problem}
 use Rattle.gtfs_advice.specs.Advice.{day, nothing, row, About}
 use Rattle.gtfs_advice.specs.Codes.{advice_name, advice_rank, advice_text, file_of}
 use Rattle.gtfs_advice.specs.declared.code.Code.{Code}

@@ -2,7 +2,7 @@
 use Rattle.std.specs.Prelude.{◌≡◌, ◌&&◌, ℕ, Bool, false, not, if◌then◌else◌, List, [], ◌∷◌, ◌++◌, length, ℤ, Option, Some}
 use Rattle.gtfs_devices.specs.Folder.{Store}
 use Rattle.gtfs_table.specs.Tables.{Dataset}
-use Rattle.gtfs_columns.specs.Problems.{Problem, passes, IsReport}
+use Rattle.gtfs_schema.specs.Problems.{Problem, passes, IsReport}
 use Rattle.gtfs_rows.specs.Reading.{content_of}
 use Rattle.gtfs_rules.specs.Report.{counts_line}
 use Rattle.gtfs_advice.specs.Advice.{advice, About}

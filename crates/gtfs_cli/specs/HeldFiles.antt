@@ -9,7 +9,7 @@ use Rattle.gtfs_devices.specs.Folder.{Store, Finds, HasFileOver, LacksFolder}
 use Rattle.gtfs_table.specs.Reading.{kept_files, AllHoldWithin, HoldsDataset}
 use Rattle.gtfs_table.specs.Tables.{Dataset}
 use Rattle.gtfs_table.specs.declared.file.File.{File}
-use Rattle.gtfs_columns.specs.Problems.{Passes}
+use Rattle.gtfs_schema.specs.Problems.{Passes}
 
 -- ---- the file that a path names
 

@@ -1,7 +1,7 @@
 -- How a check goes on once the lines of its problems went out.
 use Rattle.std.specs.Prelude.{◌≡◌, ◌⊎◌, ◌&&◌, ℕ, Bool, false, if◌then◌else◌, List, [], ◌∷◌, ◌++◌, count_by, length, not, option_map, ℤ, Option, None, Some}
-use Rattle.gtfs_columns.specs.Codes.{is_error}
-use Rattle.gtfs_columns.specs.Problems.{passes, Problem}
+use Rattle.gtfs_schema.specs.Codes.{is_error}
+use Rattle.gtfs_schema.specs.Problems.{passes, Problem}
 use Rattle.gtfs_table.specs.Tables.{Dataset}
 use Rattle.gtfs_rows.specs.Content.{Content}
 use Rattle.gtfs_rows.specs.Reading.{content_of}

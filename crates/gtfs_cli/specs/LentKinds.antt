@@ -2,9 +2,9 @@
 use Rattle.std.specs.Prelude.{ℕ, ◌==◌, if◌then◌else◌, Option, None, Some}
 use Rattle.std.specs.BTreeMap.{get}
 use Rattle.std.specs.declared.cmp.Ordering.{Ordering}
-use Rattle.gtfs_columns.specs.Problems.{problem_cmp}
-use Rattle.gtfs_columns.specs.View.{problem_of}
-use Rattle.gtfs_columns.specs.declared.problem.Problem.{Problem as Lent}
+use Rattle.gtfs_schema.specs.Problems.{problem_cmp}
+use Rattle.gtfs_schema.specs.View.{problem_of}
+use Rattle.gtfs_schema.specs.declared.problem.Problem.{Problem as Lent}
 use Rattle.gtfs_cli.specs.declared.commands.kinds.KindCounts.{KindCounts}
 
 abbrev pub lent_cmp : Lent → Lent → Ordering

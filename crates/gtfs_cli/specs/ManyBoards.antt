@@ -4,7 +4,7 @@ use Rattle.gtfs_days.specs.Zone.{zone_origin}
 use Rattle.gtfs_days.specs.declared.zone.Zone.{Zone}
 use Rattle.gtfs_devices.specs.Folder.{Store}
 use Rattle.gtfs_table.specs.Tables.{without_marks, Dataset}
-use Rattle.gtfs_columns.specs.Problems.{Passes}
+use Rattle.gtfs_schema.specs.Problems.{Passes}
 use Rattle.gtfs_rows.specs.Content.{Content}
 use Rattle.gtfs_rows.specs.Reading.{content_of}
 use Rattle.gtfs_board.specs.Page.{IsCutShort, IsPage, IsStopped}

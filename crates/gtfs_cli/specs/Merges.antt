@@ -7,7 +7,7 @@ use Rattle.gtfs_table.specs.Reading.{kept_files, HoldsDataset}
 use Rattle.gtfs_table.specs.Tables.{table_of, Dataset}
 use Rattle.gtfs_table.specs.Written.{text_of_table}
 use Rattle.gtfs_table.specs.declared.file.File.{File}
-use Rattle.gtfs_columns.specs.Problems.{Passes}
+use Rattle.gtfs_schema.specs.Problems.{Passes}
 use Rattle.gtfs_rows.specs.Content.{Content}
 use Rattle.gtfs_rows.specs.Reading.{content_of}
 use Rattle.gtfs_rows.specs.Written.{written}

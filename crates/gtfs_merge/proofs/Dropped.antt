@@ -2,8 +2,8 @@
 use Rattle.std.proofs.Common.{◌≡◌, ℕ, Bool, true, false, cond, List, [], ◌∷◌, ◌++◌, Some, Option, refl, sym, ap, ◌∙◌, inl, inr, filter, map, bytes_eq, true≢false}
 use Rattle.std.specs.Cmp.Lexicographic.{nat_list_cmp_total, texts_ties}
 use Rattle.std.specs.FinMap as table
-use Rattle.gtfs_columns.proofs.NamedFacts.{text_turned as bytes_flip}
-use Rattle.gtfs_columns.proofs.SiteFacts.{text_is as same_bytes}
+use Rattle.gtfs_schema.proofs.NamedFacts.{text_turned as bytes_flip}
+use Rattle.gtfs_schema.proofs.SiteFacts.{text_is as same_bytes}
 use Rattle.gtfs_field.specs.TextOrder.{text_cmp}
 use Rattle.gtfs_rows.proofs.Members.{In}
 use Rattle.gtfs_merge.specs.Merged.{by_id}

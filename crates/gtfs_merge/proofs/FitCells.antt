@@ -1,7 +1,7 @@
 -- Cells stay inside their columns under new names.
 use Rattle.std.proofs.Common.{◌≡◌, Bool, true, List, [], ◌∷◌, sym, true≢false}
 use Rattle.std.proofs.lemmas.Bool.{and_parts, and_from}
-use Rattle.gtfs_columns.specs.Columns.{Column}
+use Rattle.gtfs_schema.specs.Columns.{Column}
 use Rattle.gtfs_rows.specs.Cells.{Cell, are_cells, is_cell}
 
 -- each cell of the second row fits its column if that of the first row does

@@ -6,8 +6,8 @@ use Rattle.std.proofs.lemmas.Bool.{and_parts, and_from}
 use Rattle.std.proofs.lemmas.List.Concat.{flat_map-cons}
 use Rattle.gtfs_table.specs.declared.file.File.TheVariants as file
 use Prim.Native.String.{String as Literal}
-use Rattle.gtfs_columns.specs.Columns.{columns_of, id, optional}
-use Rattle.gtfs_columns.specs.Values.{word}
+use Rattle.gtfs_schema.specs.Columns.{columns_of, id, optional}
+use Rattle.gtfs_schema.specs.Values.{word}
 use Rattle.gtfs_rows.specs.Cells.{are_cells, is_cell}
 use Rattle.gtfs_rows.specs.Content.{Content}
 use Rattle.gtfs_rows.specs.RowCells.{agency_cells, stop_cells, route_cells, trip_cells, stop_time_cells, week_cells, exception_cells, frequency_cells, transfer_cells, week_list, stop_times_of, weeks_of, exceptions_of, frequencies_of}

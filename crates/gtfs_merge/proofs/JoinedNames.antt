@@ -7,7 +7,7 @@ use Rattle.std.specs.Ordering.{on}
 use Rattle.std.proofs.lemmas.Bool.{or_right}
 use Rattle.std.proofs.lemmas.List.{get_or-map, length-map}
 use Rattle.gtfs_field.proofs.ListFacts.{mapped_at as row-map}
-use Rattle.gtfs_columns.proofs.SiteFacts.{text_itself}
+use Rattle.gtfs_schema.proofs.SiteFacts.{text_itself}
 use Rattle.gtfs_field.specs.TextOrder.{text_cmp}
 use Rattle.gtfs_rows.specs.Content.{Content}
 use Rattle.gtfs_rows.specs.Order.{Ascends}

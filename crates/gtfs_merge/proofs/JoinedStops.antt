@@ -10,9 +10,9 @@ use Rattle.std.proofs.lemmas.List.Quantifiers.{position-Some}
 use Rattle.std.proofs.lemmas.Option.{slice_get-get_or}
 use Rattle.gtfs_field.proofs.ListFacts.{mapped_at as row-map, position_any as before-any}
 use Rattle.gtfs_field.specs.TextOrder.{text_cmp}
-use Rattle.gtfs_columns.proofs.SiteFacts.{text_is as same_bytes}
-use Rattle.gtfs_columns.proofs.NamedFacts.{text_turned as bytes_flip}
-use Rattle.gtfs_columns.proofs.BoolFacts.{same_test as same_tests}
+use Rattle.gtfs_schema.proofs.SiteFacts.{text_is as same_bytes}
+use Rattle.gtfs_schema.proofs.NamedFacts.{text_turned as bytes_flip}
+use Rattle.gtfs_schema.proofs.BoolFacts.{same_test as same_tests}
 use Rattle.gtfs_rows.specs.Content.{Content}
 use Rattle.gtfs_rows.specs.Order.{Ascends}
 use Rattle.gtfs_rows.specs.Rows.{Stop}

@@ -9,8 +9,8 @@ use Rattle.std.proofs.lemmas.Bool.{and_parts, or_cases, or_left, or_right, trueâ
 use Rattle.std.proofs.lemmas.Option.{same_Some as Some-same}
 use Rattle.std.proofs.Math.Bool.{or-false}
 use Rattle.gtfs_field.specs.TextOrder.{text_cmp}
-use Rattle.gtfs_columns.proofs.SiteFacts.{text_is as same_bytes}
-use Rattle.gtfs_columns.proofs.NamedFacts.{text_turned as bytes_flip}
+use Rattle.gtfs_schema.proofs.SiteFacts.{text_is as same_bytes}
+use Rattle.gtfs_schema.proofs.NamedFacts.{text_turned as bytes_flip}
 use Rattle.gtfs_rows.proofs.Members.{In}
 use Rattle.gtfs_merge.specs.Merged.{by_id}
 

@@ -8,9 +8,9 @@ use Rattle.std.proofs.lemmas.List.Sums.{sum_by-cons}
 use Prim.Native.String.{String as Literal}
 use Rattle.gtfs_table.specs.Rows.{is_empty}
 use Rattle.gtfs_table.specs.declared.file.File.TheVariants as file
-use Rattle.gtfs_columns.specs.Columns.{columns_of, optional, id}
-use Rattle.gtfs_columns.specs.Values.{if_there, word}
-use Rattle.gtfs_columns.proofs.SiteFacts.{text_is as same_bytes}
+use Rattle.gtfs_schema.specs.Columns.{columns_of, optional, id}
+use Rattle.gtfs_schema.specs.Values.{if_there, word}
+use Rattle.gtfs_schema.proofs.SiteFacts.{text_is as same_bytes}
 use Rattle.gtfs_rows.specs.Cells.{is_cell, is_clean, is_filled}
 use Rattle.gtfs_rows.specs.Content.{Content}
 use Rattle.gtfs_rows.specs.RowCells.{id_cell, agency_cells, stop_cells}

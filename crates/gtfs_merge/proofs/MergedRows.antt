@@ -5,9 +5,9 @@ use Rattle.std.specs.Option.{option_or}
 use Rattle.std.specs.List.{list_any}
 use Rattle.std.proofs.lemmas.Bool.{cases_Bool}
 use Rattle.std.proofs.lemmas.List.Folds.{find-append}
-use Rattle.gtfs_columns.proofs.SiteFacts.{text_is as same_bytes}
-use Rattle.gtfs_columns.proofs.NamedFacts.{text_turned as bytes_flip}
-use Rattle.gtfs_columns.proofs.BoolFacts.{same_test as same_tests}
+use Rattle.gtfs_schema.proofs.SiteFacts.{text_is as same_bytes}
+use Rattle.gtfs_schema.proofs.NamedFacts.{text_turned as bytes_flip}
+use Rattle.gtfs_schema.proofs.BoolFacts.{same_test as same_tests}
 use Rattle.gtfs_rows.proofs.Members.{In}
 use Rattle.gtfs_merge.specs.Merged.{by_id}
 use Rattle.gtfs_merge.specs.Renaming.{lists_id, joined_by, Renaming}

@@ -9,8 +9,8 @@ use Rattle.std.proofs.lemmas.Bool.{and_parts, and_from, not-false}
 use Rattle.gtfs_field.specs.TextOrder.{text_cmp}
 use Rattle.gtfs_table.specs.declared.file.File.{File}
 use Rattle.gtfs_table.specs.declared.file.File.TheVariants as file
-use Rattle.gtfs_columns.specs.Columns.{columns_of}
-use Rattle.gtfs_columns.proofs.SiteFacts.{text_is as same_bytes}
+use Rattle.gtfs_schema.specs.Columns.{columns_of}
+use Rattle.gtfs_schema.proofs.SiteFacts.{text_is as same_bytes}
 use Rattle.gtfs_rows.specs.Cells.{are_cells, is_clean}
 use Rattle.gtfs_rows.specs.Content.{Content}
 use Rattle.gtfs_rows.specs.Order.{Ascends, transfer_key, transfer_key_cmp}

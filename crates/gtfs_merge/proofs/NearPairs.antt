@@ -8,7 +8,7 @@ use Rattle.std.proofs.lemmas.List.Elements.{filter_map-append}
 use Rattle.std.proofs.lemmas.List.Quantifiers.{position-Some}
 use Rattle.std.proofs.lemmas.Option.{slice_get-get_or}
 use Rattle.gtfs_field.proofs.ListFacts.{some_of}
-use Rattle.gtfs_columns.proofs.SiteFacts.{text_is as same_bytes}
+use Rattle.gtfs_schema.proofs.SiteFacts.{text_is as same_bytes}
 use Rattle.gtfs_rows.specs.Content.{Content}
 use Rattle.gtfs_rows.specs.Rows.{Stop}
 use Rattle.gtfs_rows.specs.Views.{IsSoundParts, content_of_parts, stop_ids}

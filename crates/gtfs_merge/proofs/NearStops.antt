@@ -9,7 +9,7 @@ use Rattle.std.proofs.lemmas.List.Quantifiers.{position-Some}
 use Rattle.std.proofs.lemmas.Option.{slice_get-get_or}
 use Rattle.gtfs_field.proofs.ListFacts.{mapped_at as row-map, position_any as before-any, some_of}
 use Rattle.gtfs_field.specs.TextOrder.{text_cmp}
-use Rattle.gtfs_columns.proofs.NamedFacts.{text_turned as bytes_flip}
+use Rattle.gtfs_schema.proofs.NamedFacts.{text_turned as bytes_flip}
 use Rattle.gtfs_rows.specs.Choices.{location_code}
 use Rattle.gtfs_rows.specs.Content.{Content}
 use Rattle.gtfs_rows.specs.Order.{Ascends}

@@ -5,7 +5,7 @@ use Rattle.std.specs.List.{All, Contains, range_with_len}
 use Rattle.std.proofs.lemmas.List.{get_or-map, length-map}
 use Rattle.std.proofs.lemmas.List.Elements.{Contains-append_cases, Contains-append_left, Contains-append_right, Contains-get_or}
 use Rattle.std.proofs.lemmas.List.Quantifiers.{position-Some}
-use Rattle.gtfs_columns.proofs.SiteFacts.{text_is as same_bytes}
+use Rattle.gtfs_schema.proofs.SiteFacts.{text_is as same_bytes}
 use Rattle.gtfs_rows.specs.Views.{IsSoundParts, content_of_parts, text_of_number}
 use Rattle.gtfs_rows.proofs.SameElements.{contains-filter, contains-from_map, contains-map, same-from_permutation}
 use Rattle.gtfs_merge.specs.MergedKinds.{AreMergedRows}

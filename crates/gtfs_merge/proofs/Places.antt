@@ -9,8 +9,8 @@ use Rattle.gtfs_times.specs.declared.times.Times.{Times}
 use Rattle.gtfs_merge.proofs.TimedIds.{ids-timed, keys-timed}
 use Rattle.gtfs_merge.proofs.TimedFeeds.{places-timed}
 use Rattle.gtfs_rows.specs.Content.{Content}
-use Rattle.gtfs_columns.specs.Values.{if_there}
-use Rattle.gtfs_columns.proofs.SiteFacts.{text_is as same_bytes}
+use Rattle.gtfs_schema.specs.Values.{if_there}
+use Rattle.gtfs_schema.proofs.SiteFacts.{text_is as same_bytes}
 use Rattle.gtfs_rows.specs.Key.{Key}
 use Rattle.gtfs_rows.specs.Departures.{is_above, is_within, Origins, departs_at, departs_from}
 use Rattle.gtfs_rows.specs.Places.{is_plain_stop, is_in_place}

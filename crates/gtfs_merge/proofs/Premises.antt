@@ -6,9 +6,9 @@ use Rattle.std.specs.Ordering.{on}
 use Rattle.std.proofs.lemmas.Bool.{and_parts, or_cases}
 use Rattle.gtfs_field.proofs.ListFacts.{any_mapped as list_any-map}
 use Rattle.gtfs_field.specs.TextOrder.{text_cmp}
-use Rattle.gtfs_columns.specs.Values.{if_there}
+use Rattle.gtfs_schema.specs.Values.{if_there}
 use Rattle.gtfs_field.proofs.TextOrderFacts.{texts_total}
-use Rattle.gtfs_columns.proofs.NamedFacts.{text_turned as bytes_flip}
+use Rattle.gtfs_schema.proofs.NamedFacts.{text_turned as bytes_flip}
 use Rattle.gtfs_rows.specs.Content.{Content}
 use Rattle.gtfs_rows.specs.Order.{Ascends}
 use Rattle.gtfs_rows.specs.Rows.{Stop, StopRow, Trip}

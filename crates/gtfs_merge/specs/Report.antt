@@ -4,7 +4,7 @@ use Rattle.gtfs_merge.specs.declared.kind.Kind.{Kind}
 use Rattle.gtfs_merge.specs.declared.kind.Kind.TheVariants as kind
 use Rattle.gtfs_merge.specs.declared.kind.Side.{Side}
 use Rattle.gtfs_merge.specs.declared.kind.Side.TheVariants as side
-use Rattle.gtfs_columns.specs.Values.{plain}
+use Rattle.gtfs_schema.specs.Values.{plain}
 use Rattle.gtfs_rows.specs.Content.{Content}
 use Rattle.gtfs_merge.specs.Renaming.{Nearness, Renaming, names_a, names_b, renaming, ids, joined_ids}
 

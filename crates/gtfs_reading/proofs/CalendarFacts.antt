@@ -12,14 +12,14 @@ use Rattle.gtfs_table.specs.Rows.{is_row, records_in, rows}
 use Rattle.gtfs_table.specs.Tables.{Dataset}
 use Rattle.gtfs_table.specs.declared.file.File.{File}
 use Rattle.gtfs_table.specs.declared.file.File.TheVariants as file
-use Rattle.gtfs_columns.specs.declared.code.Code.TheVariants as code
-use Rattle.gtfs_columns.specs.Calendars.{exception_in, first_service_row, service_rows, week_in}
-use Rattle.gtfs_columns.specs.Columns.{Column, id, date, refused, required, column_named}
-use Rattle.gtfs_columns.specs.Problems.{Passes, kept}
-use Rattle.gtfs_columns.specs.Rows.{amount_in, text_in, word_in}
-use Rattle.gtfs_columns.specs.Values.{as_amount, if_both, is_word, readable}
-use Rattle.gtfs_columns.proofs.NamedFacts.{text_turned}
-use Rattle.gtfs_columns.proofs.ReadFacts.{amount_some, read_as_there, stands}
+use Rattle.gtfs_schema.specs.declared.code.Code.TheVariants as code
+use Rattle.gtfs_schema.specs.Calendars.{exception_in, first_service_row, service_rows, week_in}
+use Rattle.gtfs_schema.specs.Columns.{Column, id, date, refused, required, column_named}
+use Rattle.gtfs_schema.specs.Problems.{Passes, kept}
+use Rattle.gtfs_schema.specs.Rows.{amount_in, text_in, word_in}
+use Rattle.gtfs_schema.specs.Values.{as_amount, if_both, is_word, readable}
+use Rattle.gtfs_schema.proofs.NamedFacts.{text_turned}
+use Rattle.gtfs_schema.proofs.ReadFacts.{amount_some, read_as_there, stands}
 use Rattle.gtfs_rows.proofs.SameElements.{pairs-map}
 use Rattle.gtfs_reading.specs.CalendarRows.{rows_with}
 use Rattle.gtfs_reading.proofs.IdTexts.{filled_required, word_there}

@@ -6,7 +6,7 @@ use Rattle.std.proofs.lemmas.List.Folds.{list_all-append}
 use Rattle.gtfs_table.specs.Rows.{is_row, records_in}
 use Rattle.gtfs_table.specs.Tables.{Dataset, field_under, record_at}
 use Rattle.gtfs_table.specs.declared.file.File.{File}
-use Rattle.gtfs_columns.specs.steps.Ids.{FirstRows, first_rows, rows_by_number}
+use Rattle.gtfs_schema.specs.steps.Ids.{FirstRows, first_rows, rows_by_number}
 use Rattle.gtfs_reading.specs.ColumnIndices.{column_indices}
 use Rattle.gtfs_reading.proofs.ByIds.{rows_are}
 use Rattle.std.proofs.lemmas.List.Elements.{All-head}

@@ -14,11 +14,11 @@ use Rattle.gtfs_field.specs.Kinds.{time_of}
 use Rattle.gtfs_table.specs.Rows.{is_empty, is_row, records_in, rows}
 use Rattle.gtfs_table.specs.Tables.{Dataset}
 use Rattle.gtfs_table.specs.declared.file.File.TheVariants as file
-use Rattle.gtfs_columns.specs.Columns.{id, refused, required, time}
-use Rattle.gtfs_columns.specs.Problems.{Passes}
-use Rattle.gtfs_columns.specs.Rows.{text_in, value_in, word_in}
-use Rattle.gtfs_columns.specs.Values.{as_amount, value_of_count, is_word}
-use Rattle.gtfs_columns.proofs.ReadFacts.{amount_some, read_as_there, stands}
+use Rattle.gtfs_schema.specs.Columns.{id, refused, required, time}
+use Rattle.gtfs_schema.specs.Problems.{Passes}
+use Rattle.gtfs_schema.specs.Rows.{text_in, value_in, word_in}
+use Rattle.gtfs_schema.specs.Values.{as_amount, value_of_count, is_word}
+use Rattle.gtfs_schema.proofs.ReadFacts.{amount_some, read_as_there, stands}
 use Rattle.gtfs_rows.specs.declared.frequency.Frequency.{Frequency as FrequencyRow}
 use Rattle.gtfs_rows.specs.Order.{by_key}
 use Rattle.gtfs_rows.specs.Reading.{frequency_in, rows_of}

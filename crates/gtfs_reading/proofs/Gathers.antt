@@ -19,8 +19,8 @@ use Rattle.gtfs_field.proofs.OrderingFacts.{first_at_most as lower-trip}
 use Rattle.gtfs_table.specs.Parts.{parts}
 use Rattle.gtfs_table.specs.Tables.{Dataset}
 use Rattle.gtfs_table.specs.declared.file.File.TheVariants as file
-use Rattle.gtfs_columns.specs.Problems.{Passes}
-use Rattle.gtfs_columns.specs.Rows.{word_in}
+use Rattle.gtfs_schema.specs.Problems.{Passes}
+use Rattle.gtfs_schema.specs.Rows.{word_in}
 use Rattle.gtfs_stop_times.specs.declared.stop_time.StopTime.{StopTime}
 use Rattle.gtfs_rules.specs.StopTimes.{AreStopTimes, SaysStopTime, stop_time_cmp}
 use Rattle.gtfs_rows.specs.Reading.{content_of, stop_row_in}

@@ -6,25 +6,25 @@ use Rattle.std.specs.List.{All, list_any, range_with_len}
 use Rattle.std.proofs.lemmas.Bool.{cases_Bool}
 use Rattle.std.proofs.lemmas.Bool.Decides.{nat_tests}
 use Rattle.std.proofs.lemmas.List.Quantifiers.{position-Some}
-use Rattle.gtfs_columns.proofs.IdFacts.{first_row_is}
-use Rattle.gtfs_columns.proofs.IdNumberFacts.{number_known, number_there}
+use Rattle.gtfs_schema.proofs.IdFacts.{first_row_is}
+use Rattle.gtfs_schema.proofs.IdNumberFacts.{number_known, number_there}
 use Rattle.std.proofs.lemmas.List.Elements.{All-head, All-tail, filter_passes}
 use Rattle.std.specs.Cmp.Lexicographic.{nat_list_cmp_total}
 use Rattle.gtfs_field.specs.TextOrder.{text_cmp}
 use Rattle.gtfs_table.specs.Rows.{is_empty, is_row, records_in, rows}
 use Rattle.gtfs_table.specs.Tables.{Dataset}
 use Rattle.gtfs_table.specs.declared.file.File.{File}
-use Rattle.gtfs_columns.specs.declared.code.Code.TheVariants as code
-use Rattle.gtfs_columns.specs.Columns.{Column, id, refused, column_named}
-use Rattle.gtfs_columns.specs.KeyRules.{is_known}
-use Rattle.gtfs_columns.specs.Problems.{Passes, kept}
-use Rattle.gtfs_columns.specs.ReadRules.{IsReadAs}
-use Rattle.gtfs_columns.specs.Reads.{word_of}
-use Rattle.gtfs_columns.specs.References.{references}
-use Rattle.gtfs_columns.specs.Rows.{is_file, row_with, text_in, value_in, word_in}
-use Rattle.gtfs_columns.specs.Values.{as_word, has_control, readable}
-use Rattle.gtfs_columns.specs.steps.Ids.{FirstRows, first_row_with, first_rows, ids_of, number_with, rows_by_number}
-use Rattle.gtfs_columns.proofs.ReadFacts.{passes_read}
+use Rattle.gtfs_schema.specs.declared.code.Code.TheVariants as code
+use Rattle.gtfs_schema.specs.Columns.{Column, id, refused, column_named}
+use Rattle.gtfs_schema.specs.KeyRules.{is_known}
+use Rattle.gtfs_schema.specs.Problems.{Passes, kept}
+use Rattle.gtfs_schema.specs.ReadRules.{IsReadAs}
+use Rattle.gtfs_schema.specs.Reads.{word_of}
+use Rattle.gtfs_schema.specs.References.{references}
+use Rattle.gtfs_schema.specs.Rows.{is_file, row_with, text_in, value_in, word_in}
+use Rattle.gtfs_schema.specs.Values.{as_word, has_control, readable}
+use Rattle.gtfs_schema.specs.steps.Ids.{FirstRows, first_row_with, first_rows, ids_of, number_with, rows_by_number}
+use Rattle.gtfs_schema.proofs.ReadFacts.{passes_read}
 use Rattle.std.proofs.lemmas.Slice.Eq.{bytes_eq-Decides}
 use Rattle.gtfs_table.proofs.BlankFacts.{no_text}
 use Rattle.gtfs_rows.specs.Order.{by_key}

@@ -14,12 +14,12 @@ use Rattle.gtfs_field.proofs.ListFacts.{position_any}
 use Rattle.gtfs_table.specs.Rows.{rows}
 use Rattle.gtfs_table.specs.Tables.{Dataset}
 use Rattle.gtfs_table.specs.declared.file.File.TheVariants as file
-use Rattle.gtfs_columns.specs.Columns.{id, required}
-use Rattle.gtfs_columns.specs.IdNumbers.{first_rows, ids_by_bytes}
-use Rattle.gtfs_columns.specs.Problems.{Passes}
-use Rattle.gtfs_columns.specs.Rows.{text_in}
-use Rattle.gtfs_columns.specs.steps.Ids.{FirstRows, ids_of, number_with, rows_by_number}
-use Rattle.gtfs_columns.proofs.SiteFacts.{text_itself}
+use Rattle.gtfs_schema.specs.Columns.{id, required}
+use Rattle.gtfs_schema.specs.IdNumbers.{first_rows, ids_by_bytes}
+use Rattle.gtfs_schema.specs.Problems.{Passes}
+use Rattle.gtfs_schema.specs.Rows.{text_in}
+use Rattle.gtfs_schema.specs.steps.Ids.{FirstRows, ids_of, number_with, rows_by_number}
+use Rattle.gtfs_schema.proofs.SiteFacts.{text_itself}
 use Rattle.gtfs_rows.specs.Order.{by_key}
 use Rattle.gtfs_rows.specs.Reading.{frequency_in, rows_of, text_at, trip_in}
 use Rattle.gtfs_rows.specs.Views.{is_number_within}

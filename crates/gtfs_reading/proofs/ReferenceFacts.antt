@@ -15,20 +15,20 @@ use Rattle.gtfs_table.specs.Rows.{has_no_record, is_empty, is_row, records_in, r
 use Rattle.gtfs_table.specs.Tables.{Dataset, table_of, table_state}
 use Rattle.gtfs_table.specs.declared.file.File.{File}
 use Rattle.gtfs_table.specs.declared.file.File.TheVariants as file
-use Rattle.gtfs_columns.specs.declared.code.Code.TheVariants as code
-use Rattle.gtfs_columns.specs.Columns.{Column, id, optional, required, column_named}
-use Rattle.gtfs_columns.specs.KeyRules.{is_known}
-use Rattle.gtfs_columns.specs.PresenceRules.{has_many_agencies}
-use Rattle.gtfs_columns.specs.Problems.{Passes, kept}
-use Rattle.gtfs_columns.proofs.IdFacts.{first_row_is}
-use Rattle.gtfs_columns.proofs.IdNumberFacts.{number_there}
-use Rattle.gtfs_columns.proofs.SiteFacts.{text_itself}
-use Rattle.gtfs_columns.specs.FileRules.{is_absent_state, is_not_utf8_state, is_read, is_read_state}
+use Rattle.gtfs_schema.specs.declared.code.Code.TheVariants as code
+use Rattle.gtfs_schema.specs.Columns.{Column, id, optional, required, column_named}
+use Rattle.gtfs_schema.specs.KeyRules.{is_known}
+use Rattle.gtfs_schema.specs.PresenceRules.{has_many_agencies}
+use Rattle.gtfs_schema.specs.Problems.{Passes, kept}
+use Rattle.gtfs_schema.proofs.IdFacts.{first_row_is}
+use Rattle.gtfs_schema.proofs.IdNumberFacts.{number_there}
+use Rattle.gtfs_schema.proofs.SiteFacts.{text_itself}
+use Rattle.gtfs_schema.specs.FileRules.{is_absent_state, is_not_utf8_state, is_read, is_read_state}
 use Rattle.gtfs_table.specs.declared.state.State.{State}
 use Rattle.gtfs_table.specs.declared.state.State.TheVariants as state
 use Rattle.gtfs_table.proofs.BlankFacts.{no_text}
-use Rattle.gtfs_columns.specs.Rows.{row_with, text_in, word_in}
-use Rattle.gtfs_columns.specs.steps.Ids.{FirstRows, first_row_with, first_rows, ids_of as ids_of_column, number_with, rows_by_number}
+use Rattle.gtfs_schema.specs.Rows.{row_with, text_in, word_in}
+use Rattle.gtfs_schema.specs.steps.Ids.{FirstRows, first_row_with, first_rows, ids_of as ids_of_column, number_with, rows_by_number}
 use Rattle.gtfs_rows.specs.Reading.{first_agency, text_at}
 use Rattle.gtfs_rows.specs.Views.{is_number_within, text_of_number}
 use Rattle.gtfs_rows.proofs.SameElements.{contains-first, contains-later}

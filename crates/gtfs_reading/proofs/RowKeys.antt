@@ -12,15 +12,15 @@ use Rattle.gtfs_table.specs.Rows.{is_row, records_in, rows}
 use Rattle.gtfs_table.specs.Tables.{Dataset}
 use Rattle.gtfs_table.specs.declared.file.File.{File}
 use Rattle.gtfs_table.proofs.RowFacts.{row_among}
-use Rattle.gtfs_columns.specs.declared.code.Code.TheVariants as code
-use Rattle.gtfs_columns.specs.KeyRules.{all_there, key_in, same_key}
-use Rattle.gtfs_columns.specs.Problems.{Passes, kept}
-use Rattle.gtfs_columns.specs.References.{reported_column}
-use Rattle.gtfs_columns.specs.Rows.{value_in, word_in}
-use Rattle.gtfs_columns.specs.Values.{as_amount, if_both, is_word, value_eq}
-use Rattle.gtfs_columns.proofs.EachFacts.{any_follows}
-use Rattle.gtfs_columns.proofs.SiteFacts.{text_itself}
-use Rattle.gtfs_columns.proofs.ValueFacts.{amount_value, is_word_some, word_value}
+use Rattle.gtfs_schema.specs.declared.code.Code.TheVariants as code
+use Rattle.gtfs_schema.specs.KeyRules.{all_there, key_in, same_key}
+use Rattle.gtfs_schema.specs.Problems.{Passes, kept}
+use Rattle.gtfs_schema.specs.References.{reported_column}
+use Rattle.gtfs_schema.specs.Rows.{value_in, word_in}
+use Rattle.gtfs_schema.specs.Values.{as_amount, if_both, is_word, value_eq}
+use Rattle.gtfs_schema.proofs.EachFacts.{any_follows}
+use Rattle.gtfs_schema.proofs.SiteFacts.{text_itself}
+use Rattle.gtfs_schema.proofs.ValueFacts.{amount_value, is_word_some, word_value}
 use Rattle.gtfs_rules.proofs.PassedStopTimes.{have_one_key, one_key}
 
 -- ---- rows ascend

@@ -9,9 +9,9 @@ use Rattle.gtfs_field.specs.TextOrder.{text_cmp}
 use Rattle.gtfs_table.specs.Parts.{parts}
 use Rattle.gtfs_table.specs.Tables.{Dataset}
 use Rattle.gtfs_table.specs.declared.file.File.TheVariants as file
-use Rattle.gtfs_columns.specs.Columns.{id, optional, required}
-use Rattle.gtfs_columns.specs.Problems.{Passes}
-use Rattle.gtfs_columns.specs.steps.Ids.{FirstRows, ids_of as ids_of_column}
+use Rattle.gtfs_schema.specs.Columns.{id, optional, required}
+use Rattle.gtfs_schema.specs.Problems.{Passes}
+use Rattle.gtfs_schema.specs.steps.Ids.{FirstRows, ids_of as ids_of_column}
 use Rattle.gtfs_rows.specs.Reading.{agency_in, content_of, route_in, service_row_in, services_named, stop_in, trip_in}
 use Rattle.gtfs_rows.specs.Views.{agency_of, frequency_of, is_number_within, service_of}
 use Rattle.gtfs_reading.specs.declared.feed_rows.FeedRows.{FeedRows}

@@ -22,14 +22,14 @@ use Rattle.gtfs_field.specs.TextOrder.{text_cmp}
 use Rattle.gtfs_table.specs.Rows.{is_empty, is_row, records_in, rows}
 use Rattle.gtfs_table.specs.Tables.{Dataset}
 use Rattle.gtfs_table.specs.declared.file.File.TheVariants as file
-use Rattle.gtfs_columns.specs.Columns.{column_named, id, optional}
-use Rattle.gtfs_columns.specs.KeyRules.{all_there, key_in, key_part, same_key}
-use Rattle.gtfs_columns.specs.Problems.{Passes}
-use Rattle.gtfs_columns.specs.Rows.{text_in, value_in, word_in}
-use Rattle.gtfs_columns.specs.Values.{Value, if_both, value_eq, word}
-use Rattle.gtfs_columns.specs.steps.Ids.{FirstRows, ids_of}
-use Rattle.gtfs_columns.proofs.SiteFacts.{text_itself}
-use Rattle.gtfs_columns.proofs.ValueFacts.{word_value}
+use Rattle.gtfs_schema.specs.Columns.{column_named, id, optional}
+use Rattle.gtfs_schema.specs.KeyRules.{all_there, key_in, key_part, same_key}
+use Rattle.gtfs_schema.specs.Problems.{Passes}
+use Rattle.gtfs_schema.specs.Rows.{text_in, value_in, word_in}
+use Rattle.gtfs_schema.specs.Values.{Value, if_both, value_eq, word}
+use Rattle.gtfs_schema.specs.steps.Ids.{FirstRows, ids_of}
+use Rattle.gtfs_schema.proofs.SiteFacts.{text_itself}
+use Rattle.gtfs_schema.proofs.ValueFacts.{word_value}
 use Rattle.gtfs_rows.specs.declared.transfer.Transfer.{Transfer as TransferRow}
 use Rattle.gtfs_rows.specs.Order.{Ascends, by_key, transfer_key, transfer_key_cmp}
 use Rattle.gtfs_rows.specs.Reading.{transfer_in}

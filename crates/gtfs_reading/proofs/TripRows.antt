@@ -20,12 +20,12 @@ use Rattle.std.proofs.lemmas.Simd.{map-map as map-twice}
 use Rattle.gtfs_table.specs.Rows.{rows}
 use Rattle.gtfs_table.specs.Tables.{Dataset}
 use Rattle.gtfs_table.specs.declared.file.File.TheVariants as file
-use Rattle.gtfs_columns.specs.IdNumbers.{ids_by_bytes}
-use Rattle.gtfs_columns.specs.Problems.{Passes}
-use Rattle.gtfs_columns.specs.Rows.{text_in, word_in}
-use Rattle.gtfs_columns.specs.Values.{is_word}
-use Rattle.gtfs_columns.proofs.SiteFacts.{text_itself}
-use Rattle.gtfs_columns.proofs.ValueFacts.{is_word_some as word-is}
+use Rattle.gtfs_schema.specs.IdNumbers.{ids_by_bytes}
+use Rattle.gtfs_schema.specs.Problems.{Passes}
+use Rattle.gtfs_schema.specs.Rows.{text_in, word_in}
+use Rattle.gtfs_schema.specs.Values.{is_word}
+use Rattle.gtfs_schema.proofs.SiteFacts.{text_itself}
+use Rattle.gtfs_schema.proofs.ValueFacts.{is_word_some as word-is}
 use Rattle.gtfs_stop_times.specs.declared.stop_time.StopTime.{StopTime}
 use Rattle.gtfs_rules.specs.StopTimes.{AreStopTimes, SaysStopTime, stop_time_cmp}
 use Rattle.gtfs_rules.proofs.PassedRows.{trip_is}

@@ -3,12 +3,12 @@ use Rattle.std.specs.Prelude.{ℕ, List, codes}
 use Prim.Native.String.{String as Literal}
 use Rattle.gtfs_table.specs.Tables.{Dataset}
 use Rattle.gtfs_table.specs.declared.file.File.{File}
-use Rattle.gtfs_columns.specs.IdNumbers.{ids_by_bytes}
+use Rattle.gtfs_schema.specs.IdNumbers.{ids_by_bytes}
 use Rattle.gtfs_rows.specs.declared.route.Route.{Route as RouteRow}
 use Rattle.gtfs_rows.specs.declared.stop.Stop.{Stop as StopRow}
 use Rattle.gtfs_rows.specs.declared.trip.Trip.{Trip as TripRow}
 use Rattle.gtfs_table.specs.declared.file.File.TheVariants as file
-use Rattle.gtfs_columns.specs.Rows.{word_in}
+use Rattle.gtfs_schema.specs.Rows.{word_in}
 use Rattle.gtfs_rows.specs.Reading.{text_at}
 
 -- the ids of a column by their numbers

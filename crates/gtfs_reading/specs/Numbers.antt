@@ -3,8 +3,8 @@ use Rattle.std.specs.Prelude.{ℕ, List, [], ◌∷◌, if◌then◌else◌, Opt
 use Rattle.std.specs.Ordering.{int_eq}
 use Rattle.gtfs_days.specs.declared.exception.Exception.{Exception}
 use Rattle.gtfs_days.specs.declared.exception.Exception.TheVariants.{Added, Removed}
-use Rattle.gtfs_columns.specs.Columns.{Kind, choice}
-use Rattle.gtfs_columns.specs.Reads.{amount_of, choice_of}
+use Rattle.gtfs_schema.specs.Columns.{Kind, choice}
+use Rattle.gtfs_schema.specs.Reads.{amount_of, choice_of}
 
 -- the number of a text of this kind
 abbrev pub number_of : Kind → List ℕ → ℕ

@@ -1,8 +1,8 @@
 //! The rows of agency.txt (GTFS Schedule Reference, `agency.txt`).
 
 ghost use Rattle.std.specs.Prelude.{◌≡◌, [], IfOk, OnOk, codes, map};
-ghost use Rattle.gtfs_columns.specs.Problems.{Passes};
-ghost use Rattle.gtfs_columns.specs.steps.Ids.{first_rows, rows_by_number};
+ghost use Rattle.gtfs_schema.specs.Problems.{Passes};
+ghost use Rattle.gtfs_schema.specs.steps.Ids.{first_rows, rows_by_number};
 ghost use Rattle.gtfs_reading.specs.ColumnIndices.{column_indices};
 ghost use Rattle.gtfs_rows.specs.Reading.{agency_in, content_of};
 ghost use Rattle.gtfs_rows.specs.Views.{agency_of};
@@ -10,9 +10,9 @@ ghost use Rattle.gtfs_table.specs.declared.file.File.TheVariants as file;
 
 use crate::columns::column_indices;
 use crate::texts::{empty, read_id, read_optional_text, read_text};
-use gtfs_columns::{Ids, agency_columns};
 use gtfs_field::{List, OutOfMemory};
 use gtfs_rows::Agency;
+use gtfs_schema::{Ids, agency_columns};
 use gtfs_table::{File, Tables};
 use std::alloc::Global;
 

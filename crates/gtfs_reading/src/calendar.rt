@@ -2,15 +2,15 @@
 
 ghost use Rattle.std.specs.Ordering.{int_eq};
 ghost use Rattle.std.specs.Prelude.{◌≡◌, pos, unwrap_or};
-ghost use Rattle.gtfs_columns.specs.Calendars.{week_in};
-ghost use Rattle.gtfs_columns.specs.Columns as kind;
-ghost use Rattle.gtfs_columns.specs.Reads.{amount_of};
+ghost use Rattle.gtfs_schema.specs.Calendars.{week_in};
+ghost use Rattle.gtfs_schema.specs.Columns as kind;
+ghost use Rattle.gtfs_schema.specs.Reads.{amount_of};
 ghost use Rattle.gtfs_reading.specs.ColumnIndices.{column_indices};
 ghost use Rattle.gtfs_table.specs.declared.file.File.TheVariants as file;
 
 use crate::numbers::day;
-use gtfs_columns::values;
 use gtfs_days::Week;
+use gtfs_schema::values;
 use gtfs_table::{File, Tables};
 
 // The week of a row. The weekdays stand under the columns 1 to 7, from Monday on.

@@ -1,7 +1,7 @@
 //! The choices of a row, as the typed rows keep them.
 
 ghost use Rattle.std.specs.Prelude.{◌≡◌, [], ◌∷◌, codes, option_map};
-ghost use Rattle.gtfs_columns.specs.Columns as kind;
+ghost use Rattle.gtfs_schema.specs.Columns as kind;
 ghost use Rattle.gtfs_reading.specs.Numbers.{chosen, number_if_there, number_of};
 ghost use Rattle.gtfs_rows.specs.Choices.{bikes_code, boarding_code, direction_code, exact_code, location_code, transfer_code, wheelchair_code};
 

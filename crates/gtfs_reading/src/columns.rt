@@ -1,11 +1,11 @@
 //! The columns of a file, found once.
 
 ghost use Rattle.std.specs.Prelude.{◌≡◌, length, map};
-ghost use Rattle.gtfs_columns.specs.Columns.{columns_of};
-ghost use Rattle.gtfs_columns.specs.steps.ColumnView.{column_of};
+ghost use Rattle.gtfs_schema.specs.Columns.{columns_of};
+ghost use Rattle.gtfs_schema.specs.steps.ColumnView.{column_of};
 ghost use Rattle.gtfs_reading.specs.ColumnIndices.{column_indices};
 
-use gtfs_columns::Column;
+use gtfs_schema::Column;
 use gtfs_table::{File, Tables};
 
 // The indices of the kept columns of a file, each at the place that its column has among them.

@@ -1,16 +1,16 @@
 //! The rows of calendar_dates.txt (GTFS Schedule Reference, `calendar_dates.txt`).
 
 ghost use Rattle.std.specs.Prelude.{◌≡◌, map, IfOk};
-ghost use Rattle.gtfs_columns.specs.Calendars.{exception_in};
-ghost use Rattle.gtfs_columns.specs.Columns as kind;
+ghost use Rattle.gtfs_schema.specs.Calendars.{exception_in};
+ghost use Rattle.gtfs_schema.specs.Columns as kind;
 ghost use Rattle.gtfs_reading.specs.ColumnIndices.{column_indices};
 ghost use Rattle.gtfs_reading.specs.Numbers.{exception_of};
 ghost use Rattle.gtfs_table.specs.declared.file.File.TheVariants as file;
 
 use crate::numbers::day;
-use gtfs_columns::values;
 use gtfs_days::Exception;
 use gtfs_field::{Day, OutOfMemory};
+use gtfs_schema::values;
 use gtfs_table::{File, Tables};
 use std::alloc::Global;
 

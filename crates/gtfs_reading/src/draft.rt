@@ -1,14 +1,14 @@
 ghost use Rattle.std.specs.Prelude.{◌≡◌, [], IfOk};
-ghost use Rattle.gtfs_columns.specs.Problems.{Passes};
-ghost use Rattle.gtfs_columns.specs.steps.FeedIds.{AreNetworkIdsOf};
+ghost use Rattle.gtfs_schema.specs.Problems.{Passes};
+ghost use Rattle.gtfs_schema.specs.steps.FeedIds.{AreNetworkIdsOf};
 ghost use Rattle.gtfs_rules.specs.StopTimes.{AreStopTimes};
 ghost use Rattle.gtfs_reading.specs.StopTimeDraft.{lists_with};
 ghost use Rattle.gtfs_reading.specs.StopTimeLists.{AreStopTimesOf};
 
 use crate::gathered::{Gathered, begin};
 use crate::stop_times::StopTimes;
-use gtfs_columns::NetworkIds;
 use gtfs_field::{List, OutOfMemory, Text};
+use gtfs_schema::NetworkIds;
 use gtfs_stop_times::{HeadsignedStopTimes, KeptStopTimes};
 use gtfs_table::Tables;
 use std::alloc::Global;

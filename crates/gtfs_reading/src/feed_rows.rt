@@ -1,6 +1,6 @@
 ghost use Rattle.std.specs.Prelude.{◌≡◌, map, IfOk, OnOk};
-ghost use Rattle.gtfs_columns.specs.Problems.{Passes};
-ghost use Rattle.gtfs_columns.specs.steps.FeedIds.{AreNetworkIdsOf};
+ghost use Rattle.gtfs_schema.specs.Problems.{Passes};
+ghost use Rattle.gtfs_schema.specs.steps.FeedIds.{AreNetworkIdsOf};
 ghost use Rattle.gtfs_reading.specs.FeedRows.{AreRowsOf, rows_in};
 ghost use Rattle.gtfs_reading.specs.Lists.{HasNetwork, HasTrips};
 ghost use Rattle.gtfs_reading.specs.ServiceIds.{HasAll, service_ids, service_texts};
@@ -17,11 +17,11 @@ use crate::services::services;
 use crate::stops::stops;
 use crate::transfers::transfers;
 use crate::trips::trips;
-use gtfs_columns::NetworkIds;
 use gtfs_field::{List, OutOfMemory, Text};
 use gtfs_rows::{
     Agency, Frequency, Parts, Route, ServiceRow, Stop, StopTimesByTrip, Transfer, Trip,
 };
+use gtfs_schema::NetworkIds;
 use gtfs_table::Tables;
 use std::alloc::Global;
 

@@ -2,8 +2,8 @@
 
 ghost use Rattle.std.specs.Ordering.{nat_cmp};
 ghost use Rattle.std.specs.Prelude.{◌≡◌, ◌<◌, [], IfOk, OnOk, codes, length, map, slice_index_or};
-ghost use Rattle.gtfs_columns.specs.Problems.{Passes};
-ghost use Rattle.gtfs_columns.specs.steps.Ids.{first_rows, ids_of, rows_by_number};
+ghost use Rattle.gtfs_schema.specs.Problems.{Passes};
+ghost use Rattle.gtfs_schema.specs.steps.Ids.{first_rows, ids_of, rows_by_number};
 ghost use Rattle.gtfs_reading.specs.ByTrip.{AreByTrip, AreNamedTrips, with_mark};
 ghost use Rattle.gtfs_reading.specs.Cuts.{IsCutInto};
 ghost use Rattle.gtfs_rows.specs.Order.{by_key};
@@ -16,9 +16,9 @@ use crate::choices::exact_times;
 use crate::columns::column_indices;
 use crate::numbers::{clock, positive};
 use crate::references::number;
-use gtfs_columns::{Finder, Ids, frequencies_columns};
 use gtfs_field::{List, OutOfMemory};
 use gtfs_rows::Frequency;
+use gtfs_schema::{Finder, Ids, frequencies_columns};
 use gtfs_table::{File, Tables};
 use gtfs_trip_rules::RowsById;
 use std::alloc::Global;

@@ -1,7 +1,7 @@
 //! The lists of stop times while they are made.
 
 ghost use Rattle.std.specs.Prelude.{◌≡◌, ◌++◌, ◌-◌, [], length, not, replicate, take, IfOk, OnOk};
-ghost use Rattle.gtfs_columns.specs.Problems.{Passes};
+ghost use Rattle.gtfs_schema.specs.Problems.{Passes};
 ghost use Rattle.gtfs_rows.specs.Reading.{content_of};
 ghost use Rattle.gtfs_rules.specs.StopTimes.{AreStopTimes};
 ghost use Rattle.gtfs_reading.specs.Gathering.{AreGathered, IsEmptyFor};

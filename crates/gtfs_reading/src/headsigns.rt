@@ -1,16 +1,16 @@
 //! The headsigns of stop times by number.
 
 ghost use Rattle.std.specs.Prelude.{◌≡◌, [], IfOk, OnOk, Some, slice_get, true};
-ghost use Rattle.gtfs_columns.specs.Columns as kind;
-ghost use Rattle.gtfs_columns.specs.Reads.{word_of};
-ghost use Rattle.gtfs_columns.specs.Values.{plain};
+ghost use Rattle.gtfs_schema.specs.Columns as kind;
+ghost use Rattle.gtfs_schema.specs.Reads.{word_of};
+ghost use Rattle.gtfs_schema.specs.Values.{plain};
 ghost use Rattle.gtfs_rows.specs.Headsigns.{AddsOnly, AreDistinct, KeepsHeadsigns, NamesHeadsign};
 ghost use Rattle.gtfs_reading.specs.HeadsignIndex.{with_headsign};
 
 use crate::plain::plain;
-use gtfs_columns::has_control;
 use gtfs_field::{List, OutOfMemory, Text};
 use gtfs_rows::{HeadsignNo, OptionalHeadsign};
+use gtfs_schema::has_control;
 use indexmap::IndexSet;
 use std::alloc::Global;
 use std::hash::RandomState;

@@ -19,7 +19,7 @@
 //! Each file has a module: `agencies`, `stops`, `routes`, `trips`, `transfers`, `frequencies`, and
 //! `calendar` and `dates`, of which `services` are made. `columns` finds the columns of a file
 //! once, in the order of its schema, and a row is read by their places there. The ids of files are
-//! [`NetworkIds`](gtfs_columns::NetworkIds), and `service_ids` has those of services, which come
+//! [`NetworkIds`](gtfs_schema::NetworkIds), and `service_ids` has those of services, which come
 //! of two files. `texts`, `numbers`, `choices` and `references` read a field. `gathered` has the
 //! lists of stop times while they are made, and `headsigns` the headsigns by number.
 //!

@@ -1,13 +1,13 @@
 //! Numbers of a row as its fields keep them.
 
 ghost use Rattle.std.specs.Prelude.{◌≡◌, pos, true, unsigned_abs, unwrap_or, IfSome};
-ghost use Rattle.gtfs_columns.specs.Columns as kind;
-ghost use Rattle.gtfs_columns.specs.Reads.{amount_of, colour_or};
+ghost use Rattle.gtfs_schema.specs.Columns as kind;
+ghost use Rattle.gtfs_schema.specs.Reads.{amount_of, colour_or};
 ghost use Rattle.gtfs_field.specs.Kinds.{is_in_ranges};
 ghost use Rattle.gtfs_reading.specs.Numbers.{chosen, number_if_there, number_of};
 
-use gtfs_columns::values;
 use gtfs_field::{Clock, Colour, Day};
+use gtfs_schema::values;
 
 // A count that may be missing.
 pub(crate) fn optional_count(text: &str) -> Option<u32>

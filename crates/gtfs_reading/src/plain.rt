@@ -1,10 +1,10 @@
 //! Texts as the content of a dataset has them: a space in place of each control character.
 
 ghost use Rattle.std.specs.Prelude.{◌≡◌, string_bytes, IfOk};
-ghost use Rattle.gtfs_columns.specs.Values.{plain};
+ghost use Rattle.gtfs_schema.specs.Values.{plain};
 
-use gtfs_columns::push_plain;
 use gtfs_field::OutOfMemory;
+use gtfs_schema::push_plain;
 use std::alloc::Global;
 
 // The text with a space in place of each control character.

@@ -1,10 +1,10 @@
 //! The numbers of rows that other rows name, found by their ids.
 
 ghost use Rattle.std.specs.Prelude.{◌≡◌, option_map};
-ghost use Rattle.gtfs_columns.specs.steps.Ids.{number_with};
+ghost use Rattle.gtfs_schema.specs.steps.Ids.{number_with};
 
-use gtfs_columns::Finder;
 use gtfs_rows::{RouteNo, StopNo, TripNo};
+use gtfs_schema::Finder;
 
 // The number of a row that may be missing.
 pub(crate) fn number(ids: &mut Finder<'_>, id: &str) -> Option<usize>

@@ -1,8 +1,8 @@
 //! The rows of routes.txt (GTFS Schedule Reference, `routes.txt`).
 
 ghost use Rattle.std.specs.Prelude.{◌≡◌, ℕ, [], IfOk, OnOk, codes, map, true};
-ghost use Rattle.gtfs_columns.specs.Problems.{Passes};
-ghost use Rattle.gtfs_columns.specs.steps.Ids.{first_rows, rows_by_number};
+ghost use Rattle.gtfs_schema.specs.Problems.{Passes};
+ghost use Rattle.gtfs_schema.specs.steps.Ids.{first_rows, rows_by_number};
 ghost use Rattle.gtfs_reading.specs.ColumnIndices.{column_indices};
 ghost use Rattle.gtfs_reading.specs.Named.{ids_of, route_with_texts};
 ghost use Rattle.gtfs_rows.specs.NamedRows.{names_agency, route_named};
@@ -17,9 +17,9 @@ use crate::columns::column_indices;
 use crate::numbers::{colour, optional_count};
 use crate::references::number;
 use crate::texts::{empty, read_id, read_optional_text};
-use gtfs_columns::{Finder, Ids, routes_columns};
 use gtfs_field::{List, OutOfMemory};
 use gtfs_rows::{AgencyNo, Route};
+use gtfs_schema::{Finder, Ids, routes_columns};
 use gtfs_table::{File, Record, Tables};
 use std::alloc::Global;
 

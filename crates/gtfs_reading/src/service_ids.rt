@@ -2,8 +2,8 @@
 //! `service_id` of `calendar.txt` and `calendar_dates.txt`).
 
 ghost use Rattle.std.specs.Prelude.{◌≡◌, ◌++◌, ◌<◌, [], codes, length, map, slice_index_or, IfOk, IfSome, OnOk};
-ghost use Rattle.gtfs_columns.specs.Problems.{Passes};
-ghost use Rattle.gtfs_columns.specs.Rows.{text_in};
+ghost use Rattle.gtfs_schema.specs.Problems.{Passes};
+ghost use Rattle.gtfs_schema.specs.Rows.{text_in};
 ghost use Rattle.gtfs_reading.specs.ServiceIds.{HasAll, NumbersText, service_ids, service_texts};
 ghost use Rattle.gtfs_table.specs.Rows.{rows};
 ghost use Rattle.gtfs_table.specs.declared.file.File.TheVariants as file;

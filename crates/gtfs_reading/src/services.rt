@@ -2,8 +2,8 @@
 //! both files).
 
 ghost use Rattle.std.specs.Prelude.{◌≡◌, [], IfOk, OnOk, map, option_map};
-ghost use Rattle.gtfs_columns.specs.Calendars.{first_service_row, week_in};
-ghost use Rattle.gtfs_columns.specs.Problems.{Passes};
+ghost use Rattle.gtfs_schema.specs.Calendars.{first_service_row, week_in};
+ghost use Rattle.gtfs_schema.specs.Problems.{Passes};
 ghost use Rattle.gtfs_days.specs.Service.{IsOrdered};
 ghost use Rattle.gtfs_reading.specs.ServiceIds.{service_ids};
 ghost use Rattle.gtfs_rows.specs.Reading.{content_of, service_row_in};
@@ -14,10 +14,10 @@ use crate::calendar::week;
 use crate::columns::column_indices;
 use crate::dates::exceptions;
 use crate::service_ids::ServiceIds;
-use gtfs_columns::{calendar_columns, calendar_dates_columns};
 use gtfs_days::{Service, Week};
 use gtfs_field::{List, OutOfMemory, Text};
 use gtfs_rows::ServiceRow;
+use gtfs_schema::{calendar_columns, calendar_dates_columns};
 use gtfs_table::{File, Tables};
 use gtfs_trip_rules::RowsById;
 use std::alloc::Global;

@@ -1,8 +1,8 @@
 //! The rows of stops.txt (GTFS Schedule Reference, `stops.txt`).
 
 ghost use Rattle.std.specs.Prelude.{◌≡◌, ℕ, [], IfOk, OnOk, codes, map, true};
-ghost use Rattle.gtfs_columns.specs.Problems.{Passes};
-ghost use Rattle.gtfs_columns.specs.steps.Ids.{first_rows, rows_by_number};
+ghost use Rattle.gtfs_schema.specs.Problems.{Passes};
+ghost use Rattle.gtfs_schema.specs.steps.Ids.{first_rows, rows_by_number};
 ghost use Rattle.gtfs_reading.specs.ColumnIndices.{column_indices};
 ghost use Rattle.gtfs_reading.specs.Named.{ids_of, stop_with_texts};
 ghost use Rattle.gtfs_rows.specs.NamedRows.{names_parent, stop_named};
@@ -16,9 +16,9 @@ use crate::choices::{location_type, wheelchair_boarding};
 use crate::columns::column_indices;
 use crate::references::{as_stop, number};
 use crate::texts::{empty, read_id, read_optional_text};
-use gtfs_columns::{Finder, Ids, stops_columns, values};
 use gtfs_field::{Axis, List, OutOfMemory};
 use gtfs_rows::Stop;
+use gtfs_schema::{Finder, Ids, stops_columns, values};
 use gtfs_table::{File, Record, Tables};
 use std::alloc::Global;
 

@@ -1,13 +1,13 @@
 //! Ids and texts of a row as its fields keep them.
 
 ghost use Rattle.std.specs.Prelude.{◌≡◌, [], unwrap_or, IfOk, OnOk};
-ghost use Rattle.gtfs_columns.specs.Columns as kind;
-ghost use Rattle.gtfs_columns.specs.Reads.{word_of};
-ghost use Rattle.gtfs_columns.specs.Values.{plain};
+ghost use Rattle.gtfs_schema.specs.Columns as kind;
+ghost use Rattle.gtfs_schema.specs.Reads.{word_of};
+ghost use Rattle.gtfs_schema.specs.Values.{plain};
 ghost use Rattle.gtfs_table.specs.Tables.{field_under};
 
-use gtfs_columns::{has_control, push_plain, values};
 use gtfs_field::{OutOfMemory, Text};
+use gtfs_schema::{has_control, push_plain, values};
 use gtfs_table::Record;
 use std::alloc::Global;
 

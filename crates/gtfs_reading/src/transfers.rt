@@ -2,8 +2,8 @@
 
 ghost use Rattle.std.specs.List.{list_all};
 ghost use Rattle.std.specs.Prelude.{◌≡◌, [], IfOk, OnOk, codes, map, option_map, true};
-ghost use Rattle.gtfs_columns.specs.Problems.{Passes};
-ghost use Rattle.gtfs_columns.specs.steps.Ids.{first_rows};
+ghost use Rattle.gtfs_schema.specs.Problems.{Passes};
+ghost use Rattle.gtfs_schema.specs.steps.Ids.{first_rows};
 ghost use Rattle.gtfs_rows.specs.TransferEnds.{names_ends, transfer_named, transfer_numbers};
 ghost use Rattle.gtfs_reading.specs.ColumnIndices.{column_indices};
 ghost use Rattle.gtfs_reading.specs.Named.{ids_of};
@@ -15,9 +15,9 @@ use crate::choices::transfer_type;
 use crate::columns::column_indices;
 use crate::numbers::optional_count;
 use crate::references::{as_route, as_stop, as_trip, number};
-use gtfs_columns::{Finder, Ids, transfers_columns};
 use gtfs_field::{List, OutOfMemory};
 use gtfs_rows::{RouteNo, StopNo, Transfer, TripNo};
+use gtfs_schema::{Finder, Ids, transfers_columns};
 use gtfs_table::{File, Tables};
 use std::alloc::Global;
 

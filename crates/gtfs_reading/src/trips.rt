@@ -2,8 +2,8 @@
 //! without their stop times and frequencies.
 
 ghost use Rattle.std.specs.Prelude.{◌≡◌, ℕ, [], IfOk, OnOk, codes, map, true};
-ghost use Rattle.gtfs_columns.specs.Problems.{Passes};
-ghost use Rattle.gtfs_columns.specs.steps.Ids.{first_rows, rows_by_number};
+ghost use Rattle.gtfs_schema.specs.Problems.{Passes};
+ghost use Rattle.gtfs_schema.specs.steps.Ids.{first_rows, rows_by_number};
 ghost use Rattle.gtfs_reading.specs.ColumnIndices.{column_indices};
 ghost use Rattle.gtfs_reading.specs.Named.{ids_of, trip_with_texts};
 ghost use Rattle.gtfs_rows.specs.NamedRows.{names_route_and_service, trip_named, without_rows};
@@ -19,9 +19,9 @@ use crate::columns::column_indices;
 use crate::references::number;
 use crate::service_ids::ServiceIds;
 use crate::texts::{empty, read_id, read_optional_text};
-use gtfs_columns::{Finder, Ids, trips_columns};
 use gtfs_field::{List, OutOfMemory};
 use gtfs_rows::{RouteNo, ServiceNo, Trip};
+use gtfs_schema::{Finder, Ids, trips_columns};
 use gtfs_table::{File, Record, Tables};
 use std::alloc::Global;
 

@@ -8,20 +8,20 @@ use Rattle.gtfs_table.specs.Reading.{kept_files}
 use Rattle.gtfs_table.specs.Tables.{Dataset}
 use Rattle.gtfs_table.specs.declared.file.File.{File}
 use Rattle.gtfs_table.specs.declared.file.File.TheVariants as file
-use Rattle.gtfs_columns.specs.declared.code.Code.{Code}
-use Rattle.gtfs_columns.specs.declared.code.Code.TheVariants as code
-use Rattle.gtfs_columns.specs.steps.FieldCodes.{in_file_of}
-use Rattle.gtfs_columns.specs.FileRules.{file_not_kept, is_at, is_needed, is_read}
-use Rattle.gtfs_columns.specs.steps.Found.{Adds, is_same, Reports}
-use Rattle.gtfs_columns.specs.steps.Picks.{in_file, is_kept, of_codes}
-use Rattle.gtfs_columns.specs.Problems.{FileName, kept, other, Problem, holds, holds_in, is_code, is_problem}
-use Rattle.gtfs_columns.specs.Rows.{is_file}
+use Rattle.gtfs_schema.specs.declared.code.Code.{Code}
+use Rattle.gtfs_schema.specs.declared.code.Code.TheVariants as code
+use Rattle.gtfs_schema.specs.steps.FieldCodes.{in_file_of}
+use Rattle.gtfs_schema.specs.FileRules.{file_not_kept, is_at, is_needed, is_read}
+use Rattle.gtfs_schema.specs.steps.Found.{Adds, is_same, Reports}
+use Rattle.gtfs_schema.specs.steps.Picks.{in_file, is_kept, of_codes}
+use Rattle.gtfs_schema.specs.Problems.{FileName, kept, other, Problem, holds, holds_in, is_code, is_problem}
+use Rattle.gtfs_schema.specs.Rows.{is_file}
 use Rattle.gtfs_table.specs.Rows.{is_empty}
 use Rattle.gtfs_table.proofs.BlankFacts.{no_text}
-use Rattle.gtfs_columns.proofs.BoolFacts.{same_test, and_parts, or_left}
-use Rattle.gtfs_columns.proofs.EachFacts.{any_and, any_follows, any_gives, of_any}
-use Rattle.gtfs_columns.proofs.SiteFacts.{code_is, code_itself, file_is, file_itself, is_same_is, problem_at, same_itself, text_is}
-use Rattle.gtfs_columns.proofs.ReportingFacts.{reports_alike, reports_none, reports_one, reports_then}
+use Rattle.gtfs_schema.proofs.BoolFacts.{same_test, and_parts, or_left}
+use Rattle.gtfs_schema.proofs.EachFacts.{any_and, any_follows, any_gives, of_any}
+use Rattle.gtfs_schema.proofs.SiteFacts.{code_is, code_itself, file_is, file_itself, is_same_is, problem_at, same_itself, text_is}
+use Rattle.gtfs_schema.proofs.ReportingFacts.{reports_alike, reports_none, reports_one, reports_then}
 
 -- ---- a step for each of the nine files
 

@@ -9,25 +9,25 @@ use Rattle.gtfs_table.specs.Blanks.{cut}
 use Rattle.gtfs_table.specs.Tables.{Dataset, Records, field_cut, record_at}
 use Rattle.gtfs_table.specs.declared.file.File.{File}
 use Rattle.gtfs_table.specs.declared.file.File.TheVariants as file
-use Rattle.gtfs_columns.specs.declared.code.Code.{Code}
-use Rattle.gtfs_columns.specs.declared.code.Code.TheVariants as code
-use Rattle.gtfs_columns.specs.declared.columns.Column.{Column as CodeColumn}
-use Rattle.gtfs_columns.specs.Columns.{Column, column_named, columns_of}
-use Rattle.gtfs_columns.specs.ColumnRules.{is_required}
-use Rattle.gtfs_columns.specs.steps.ColumnView.{column_of}
-use Rattle.gtfs_columns.specs.steps.FieldCodes.{in_file_of}
-use Rattle.gtfs_columns.specs.steps.Found.{is_same, Reports}
-use Rattle.gtfs_columns.specs.steps.Picks.{at_column, in_file, is_kept, of_codes}
-use Rattle.gtfs_columns.specs.Problems.{Problem, holds_in, is_code, is_problem}
+use Rattle.gtfs_schema.specs.declared.code.Code.{Code}
+use Rattle.gtfs_schema.specs.declared.code.Code.TheVariants as code
+use Rattle.gtfs_schema.specs.declared.columns.Column.{Column as CodeColumn}
+use Rattle.gtfs_schema.specs.Columns.{Column, column_named, columns_of}
+use Rattle.gtfs_schema.specs.ColumnRules.{is_required}
+use Rattle.gtfs_schema.specs.steps.ColumnView.{column_of}
+use Rattle.gtfs_schema.specs.steps.FieldCodes.{in_file_of}
+use Rattle.gtfs_schema.specs.steps.Found.{is_same, Reports}
+use Rattle.gtfs_schema.specs.steps.Picks.{at_column, in_file, is_kept, of_codes}
+use Rattle.gtfs_schema.specs.Problems.{Problem, holds_in, is_code, is_problem}
 use Rattle.gtfs_table.specs.Rows.{has_no_record, records_in, is_empty}
-use Rattle.gtfs_columns.specs.Rows.{header, is_kept_column, is_named, times_named}
-use Rattle.gtfs_columns.specs.Values.{if_there}
-use Rattle.gtfs_columns.proofs.BoolFacts.{and_parts}
-use Rattle.gtfs_columns.proofs.EachFacts.{any_and, of_any}
+use Rattle.gtfs_schema.specs.Rows.{header, is_kept_column, is_named, times_named}
+use Rattle.gtfs_schema.specs.Values.{if_there}
+use Rattle.gtfs_schema.proofs.BoolFacts.{and_parts}
+use Rattle.gtfs_schema.proofs.EachFacts.{any_and, of_any}
 use Rattle.gtfs_row_rules.proofs.FileFacts.{held}
-use Rattle.gtfs_columns.proofs.SiteFacts.{at_column_is, problem_at, same_at_column}
-use Rattle.gtfs_columns.proofs.ReportingFacts.{reports_alike, reports_then}
-use Rattle.gtfs_columns.proofs.NamedFacts.{text_turned}
+use Rattle.gtfs_schema.proofs.SiteFacts.{at_column_is, problem_at, same_at_column}
+use Rattle.gtfs_schema.proofs.ReportingFacts.{reports_alike, reports_then}
+use Rattle.gtfs_schema.proofs.NamedFacts.{text_turned}
 
 -- ---- the kept columns of a file have different names
 

@@ -7,22 +7,22 @@ use Rattle.std.proofs.Math.Bool.{and-false}
 use Rattle.gtfs_field.proofs.ListFacts.{any_alike, any_mapped}
 use Rattle.gtfs_table.specs.Tables.{Dataset, column_of as index_of, field_under, record_at}
 use Rattle.gtfs_table.specs.declared.file.File.{File}
-use Rattle.gtfs_columns.specs.declared.code.Code.{Code}
+use Rattle.gtfs_schema.specs.declared.code.Code.{Code}
 use Rattle.gtfs_row_rules.specs.declared.fields.Header.{Header}
 use Rattle.gtfs_row_rules.specs.declared.fields.Located.{Located as LocatedColumn}
-use Rattle.gtfs_columns.specs.steps.Cells.{cell_code, is_found}
-use Rattle.gtfs_columns.specs.Columns.{Column, columns_of, column_named}
+use Rattle.gtfs_schema.specs.steps.Cells.{cell_code, is_found}
+use Rattle.gtfs_schema.specs.Columns.{Column, columns_of, column_named}
 use Rattle.gtfs_row_rules.specs.HeaderView.{Located, is_found_in, located, located_code, located_of, row_reports, IsHeader}
-use Rattle.gtfs_columns.specs.steps.FieldCodes.{field_codes, in_file_of, is_in_row}
-use Rattle.gtfs_columns.specs.steps.Found.{Adds, Reports}
-use Rattle.gtfs_columns.specs.Problems.{Problem, is_problem}
-use Rattle.gtfs_columns.specs.Rows.{text_in}
+use Rattle.gtfs_schema.specs.steps.FieldCodes.{field_codes, in_file_of, is_in_row}
+use Rattle.gtfs_schema.specs.steps.Found.{Adds, Reports}
+use Rattle.gtfs_schema.specs.Problems.{Problem, is_problem}
+use Rattle.gtfs_schema.specs.Rows.{text_in}
 use Rattle.gtfs_table.specs.Rows.{is_row, records_in}
-use Rattle.gtfs_columns.specs.Values.{if_there}
-use Rattle.gtfs_columns.proofs.AddFacts.{adds_alike}
-use Rattle.gtfs_columns.proofs.NamedFacts.{has_name, kept_any, kept_name_filled, kept_name_is, named_located}
-use Rattle.gtfs_columns.proofs.RowFacts.{at_row}
-use Rattle.gtfs_columns.proofs.FieldRowFacts.{cell_at, cell_reported, empty_is, here_reported, length_reported}
+use Rattle.gtfs_schema.specs.Values.{if_there}
+use Rattle.gtfs_schema.proofs.AddFacts.{adds_alike}
+use Rattle.gtfs_schema.proofs.NamedFacts.{has_name, kept_any, kept_name_filled, kept_name_is, named_located}
+use Rattle.gtfs_schema.proofs.RowFacts.{at_row}
+use Rattle.gtfs_schema.proofs.FieldRowFacts.{cell_at, cell_reported, empty_is, here_reported, length_reported}
 
 -- ---- the columns that the header names
 

@@ -5,10 +5,10 @@ use Rattle.std.specs.Option.{option_zip}
 use Rattle.std.specs.Result.{result_ok}
 use Rattle.gtfs_field.specs.Kinds.{date_of, shaped, time_of}
 use Rattle.gtfs_field.specs.declared.fault.FieldFault.{FieldFault}
-use Rattle.gtfs_columns.specs.Columns.{date, id, time}
-use Rattle.gtfs_columns.specs.KeyRules.{all_there}
-use Rattle.gtfs_columns.specs.Reads.{amount_of, word_of}
-use Rattle.gtfs_columns.specs.Values.{word, amount, as_amount, as_word, value_of_count, has_control, measured, readable}
+use Rattle.gtfs_schema.specs.Columns.{date, id, time}
+use Rattle.gtfs_schema.specs.KeyRules.{all_there}
+use Rattle.gtfs_schema.specs.Reads.{amount_of, word_of}
+use Rattle.gtfs_schema.specs.Values.{word, amount, as_amount, as_word, value_of_count, has_control, measured, readable}
 use Rattle.gtfs_table.specs.Rows.{is_empty}
 use Rattle.gtfs_row_rules.specs.KeyView.{kind_of_number, numbered_key}
 use Rattle.gtfs_row_rules.specs.declared.keys.Number.{Number}

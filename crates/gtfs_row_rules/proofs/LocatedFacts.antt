@@ -6,13 +6,13 @@ use Rattle.std.proofs.lemmas.List.{map-append, take_more}
 use Rattle.std.proofs.lemmas.List.Elements.{filter_map-append}
 use Rattle.std.proofs.lemmas.List.Folds.{list_any_more}
 use Rattle.gtfs_table.specs.Tables.{Records, column_of as index_of}
-use Rattle.gtfs_columns.specs.declared.columns.Column.{Column as CodeColumn}
+use Rattle.gtfs_schema.specs.declared.columns.Column.{Column as CodeColumn}
 use Rattle.gtfs_row_rules.specs.declared.fields.Located.{Located as LocatedColumn}
-use Rattle.gtfs_columns.specs.steps.ColumnView.{column_of}
+use Rattle.gtfs_schema.specs.steps.ColumnView.{column_of}
 use Rattle.gtfs_row_rules.specs.HeaderView.{Located, located, located_of}
-use Rattle.gtfs_columns.specs.steps.Found.{Adds}
-use Rattle.gtfs_columns.specs.Problems.{Problem, lists_problem}
-use Rattle.gtfs_columns.proofs.AddFacts.{adds_alike}
+use Rattle.gtfs_schema.specs.steps.Found.{Adds}
+use Rattle.gtfs_schema.specs.Problems.{Problem, lists_problem}
+use Rattle.gtfs_schema.proofs.AddFacts.{adds_alike}
 
 -- ---- the columns that the header names
 

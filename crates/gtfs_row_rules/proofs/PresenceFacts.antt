@@ -3,13 +3,13 @@ use Rattle.std.proofs.Common.{◌≡◌, ℕ, List, [], ◌∷◌, Bool, codes}
 use Rattle.std.specs.Prelude.{◌&&◌, ◌||◌, is_some}
 use Rattle.gtfs_table.specs.Tables.{Dataset}
 use Rattle.gtfs_table.specs.declared.file.File.TheVariants as file
-use Rattle.gtfs_columns.specs.Columns.{id}
-use Rattle.gtfs_columns.specs.PresenceRules.{has_wrong_parent, lacks_agency, lacks_end, lacks_name, lacks_name_or_position}
-use Rattle.gtfs_columns.specs.Rows.{text_in}
+use Rattle.gtfs_schema.specs.Columns.{id}
+use Rattle.gtfs_schema.specs.PresenceRules.{has_wrong_parent, lacks_agency, lacks_end, lacks_name, lacks_name_or_position}
+use Rattle.gtfs_schema.specs.Rows.{text_in}
 use Rattle.gtfs_table.specs.Rows.{is_empty}
-use Rattle.gtfs_columns.specs.Values.{readable}
+use Rattle.gtfs_schema.specs.Values.{readable}
 use Rattle.gtfs_row_rules.specs.PresenceView.{is_chosen}
-use Rattle.gtfs_columns.proofs.StepFacts.{Reported}
+use Rattle.gtfs_schema.proofs.StepFacts.{Reported}
 
 abbrev pub presence_rules : List Reported
 presence_rules = (file.Agency, "agency_id", lacks_agency file.Agency)

@@ -8,23 +8,23 @@ use Rattle.std.proofs.lemmas.List.Folds.{list_any-append}
 use Rattle.gtfs_table.specs.Tables.{Dataset}
 use Rattle.gtfs_table.specs.declared.file.File.{File}
 use Rattle.gtfs_table.specs.declared.file.File.TheVariants as file
-use Rattle.gtfs_columns.specs.declared.code.Code.{Code}
-use Rattle.gtfs_columns.specs.declared.code.Code.TheVariants as code
-use Rattle.gtfs_columns.specs.steps.FieldCodes.{field_codes, in_file_of}
-use Rattle.gtfs_columns.specs.steps.Found.{Reports}
-use Rattle.gtfs_columns.specs.steps.Picks.{at_column, is_kept, of_codes}
-use Rattle.gtfs_columns.specs.PeriodRules.{ends_at_start}
-use Rattle.gtfs_columns.specs.PresenceRules.{has_other_zone}
-use Rattle.gtfs_columns.specs.References.{reported_column}
-use Rattle.gtfs_columns.specs.Problems.{Problem, holds, holds_in, is_code, is_problem}
-use Rattle.gtfs_columns.specs.Rows.{is_file}
-use Rattle.gtfs_columns.specs.ServiceRules.{ends_before_start}
-use Rattle.gtfs_columns.proofs.BoolFacts.{and_parts, or_left, or_right, same_test}
-use Rattle.gtfs_columns.proofs.EachFacts.{any_follows}
-use Rattle.gtfs_columns.proofs.ReferenceFacts.{other_names, reported_at_others}
-use Rattle.gtfs_columns.proofs.ReportingFacts.{reports_alike}
-use Rattle.gtfs_columns.proofs.SiteFacts.{code_is, file_is, is_site}
-use Rattle.gtfs_columns.proofs.StepFacts.{Reported, reported_there}
+use Rattle.gtfs_schema.specs.declared.code.Code.{Code}
+use Rattle.gtfs_schema.specs.declared.code.Code.TheVariants as code
+use Rattle.gtfs_schema.specs.steps.FieldCodes.{field_codes, in_file_of}
+use Rattle.gtfs_schema.specs.steps.Found.{Reports}
+use Rattle.gtfs_schema.specs.steps.Picks.{at_column, is_kept, of_codes}
+use Rattle.gtfs_schema.specs.PeriodRules.{ends_at_start}
+use Rattle.gtfs_schema.specs.PresenceRules.{has_other_zone}
+use Rattle.gtfs_schema.specs.References.{reported_column}
+use Rattle.gtfs_schema.specs.Problems.{Problem, holds, holds_in, is_code, is_problem}
+use Rattle.gtfs_schema.specs.Rows.{is_file}
+use Rattle.gtfs_schema.specs.ServiceRules.{ends_before_start}
+use Rattle.gtfs_schema.proofs.BoolFacts.{and_parts, or_left, or_right, same_test}
+use Rattle.gtfs_schema.proofs.EachFacts.{any_follows}
+use Rattle.gtfs_schema.proofs.ReferenceFacts.{other_names, reported_at_others}
+use Rattle.gtfs_schema.proofs.ReportingFacts.{reports_alike}
+use Rattle.gtfs_schema.proofs.SiteFacts.{code_is, file_is, is_site}
+use Rattle.gtfs_schema.proofs.StepFacts.{Reported, reported_there}
 use Rattle.gtfs_row_rules.specs.RowCodes.{beside_codes, in_rows_of, row_codes}
 use Rattle.gtfs_row_rules.proofs.PresenceFacts.{presence_rules}
 use Rattle.gtfs_row_rules.proofs.SingleKeyFacts.{key_there}

@@ -2,8 +2,8 @@
 use Rattle.std.proofs.Common.{◌≡◌, ℕ, List, Bool, true, false, refl, ap}
 use Rattle.std.specs.Prelude.{◌&&◌, ◌||◌, ◌==◌}
 use Rattle.gtfs_table.specs.Tables.{Dataset}
-use Rattle.gtfs_columns.specs.Problems.{Problem, is_problem}
-use Rattle.gtfs_columns.proofs.ReportingFacts.{reports_alike, reports_then}
+use Rattle.gtfs_schema.specs.Problems.{Problem, is_problem}
+use Rattle.gtfs_schema.proofs.ReportingFacts.{reports_alike, reports_then}
 use Rattle.gtfs_row_rules.specs.RowRules.{Picks, ReportsOfRow}
 
 either_here : (a b r : Bool) → ((a && r) || (b && r)) ≡ ((a || b) && r)

@@ -9,18 +9,18 @@ use Rattle.std.proofs.lemmas.Bool.Decides.{nat_tests}
 use Rattle.gtfs_field.specs.Kinds.{shaped}
 use Rattle.gtfs_table.specs.Tables.{Dataset}
 use Rattle.gtfs_table.specs.declared.file.File.{File}
-use Rattle.gtfs_columns.specs.Columns.{id}
-use Rattle.gtfs_columns.specs.steps.Ids.{FirstRows, first_rows}
-use Rattle.gtfs_columns.specs.KeyRules.{all_there, key_twice}
-use Rattle.gtfs_columns.specs.References.{reported_column}
+use Rattle.gtfs_schema.specs.Columns.{id}
+use Rattle.gtfs_schema.specs.steps.Ids.{FirstRows, first_rows}
+use Rattle.gtfs_schema.specs.KeyRules.{all_there, key_twice}
+use Rattle.gtfs_schema.specs.References.{reported_column}
 use Rattle.gtfs_table.specs.Rows.{is_row, records_in, rows, is_empty}
-use Rattle.gtfs_columns.specs.Rows.{text_in}
+use Rattle.gtfs_schema.specs.Rows.{text_in}
 use Rattle.gtfs_row_rules.specs.SingleKeys.{is_repeated}
-use Rattle.gtfs_columns.specs.Reads.{is_id}
-use Rattle.gtfs_columns.specs.Values.{Value, word, value_eq, has_control, if_both, if_there, readable}
-use Rattle.gtfs_columns.proofs.IdFacts.{first_row_is}
-use Rattle.gtfs_columns.proofs.BoolFacts.{same_test, no_test, and_parts}
-use Rattle.gtfs_columns.proofs.SiteFacts.{text_is, text_itself}
+use Rattle.gtfs_schema.specs.Reads.{is_id}
+use Rattle.gtfs_schema.specs.Values.{Value, word, value_eq, has_control, if_both, if_there, readable}
+use Rattle.gtfs_schema.proofs.IdFacts.{first_row_is}
+use Rattle.gtfs_schema.proofs.BoolFacts.{same_test, no_test, and_parts}
+use Rattle.gtfs_schema.proofs.SiteFacts.{text_is, text_itself}
 
 -- ---- the key of a text
 

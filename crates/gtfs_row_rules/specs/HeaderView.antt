@@ -4,15 +4,15 @@ use Rattle.std.specs.Prelude.{◌≡◌, ℕ, ◌||◌, Bool, true, List, [], le
 use Rattle.std.specs.List.{list_any}
 use Rattle.gtfs_table.specs.Tables.{Dataset, Records, column_of as index_of, field_cut}
 use Rattle.gtfs_table.specs.declared.file.File.{File}
-use Rattle.gtfs_columns.specs.declared.code.Code.{Code}
+use Rattle.gtfs_schema.specs.declared.code.Code.{Code}
 use Rattle.gtfs_row_rules.specs.declared.fields.Header.{Header}
 use Rattle.gtfs_row_rules.specs.declared.fields.Located.{Located as LocatedColumn}
-use Rattle.gtfs_columns.specs.steps.Cells.{cell_code}
-use Rattle.gtfs_columns.specs.Columns.{Column, columns_of}
-use Rattle.gtfs_columns.specs.steps.ColumnView.{column_of}
-use Rattle.gtfs_columns.specs.steps.FieldCodes.{is_found_at, length_code}
-use Rattle.gtfs_columns.specs.FieldRules.{field_count}
-use Rattle.gtfs_columns.specs.Problems.{Problem}
+use Rattle.gtfs_schema.specs.steps.Cells.{cell_code}
+use Rattle.gtfs_schema.specs.Columns.{Column, columns_of}
+use Rattle.gtfs_schema.specs.steps.ColumnView.{column_of}
+use Rattle.gtfs_schema.specs.steps.FieldCodes.{is_found_at, length_code}
+use Rattle.gtfs_schema.specs.FieldRules.{field_count}
+use Rattle.gtfs_schema.specs.Problems.{Problem}
 use Rattle.gtfs_table.specs.Rows.{records_in}
 
 -- a column that the header names, with its index

@@ -5,10 +5,10 @@ use Rattle.std.specs.Cmp.Lexicographic.{pointwise}
 use Rattle.gtfs_table.specs.Tables.{Dataset, record_at}
 use Rattle.gtfs_table.specs.declared.file.File.{File}
 use Rattle.gtfs_table.specs.Rows.{is_empty, records_in, rows}
-use Rattle.gtfs_columns.specs.Columns.{Kind, date, id, time}
-use Rattle.gtfs_columns.specs.KeyRules.{all_there}
-use Rattle.gtfs_columns.specs.Rows.{text_in}
-use Rattle.gtfs_columns.specs.Values.{Value, word, value_eq, if_both, if_there, readable}
+use Rattle.gtfs_schema.specs.Columns.{Kind, date, id, time}
+use Rattle.gtfs_schema.specs.KeyRules.{all_there}
+use Rattle.gtfs_schema.specs.Rows.{text_in}
+use Rattle.gtfs_schema.specs.Values.{Value, word, value_eq, if_both, if_there, readable}
 use Rattle.gtfs_row_rules.specs.declared.keys.Number.{Number}
 use Rattle.gtfs_row_rules.specs.declared.keys.Number.TheVariants as numbers
 

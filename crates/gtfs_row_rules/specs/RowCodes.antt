@@ -2,10 +2,10 @@
 use Rattle.std.specs.Prelude.{◌||◌, ◌++◌, Bool, List, [], ◌∷◌}
 use Rattle.gtfs_table.specs.declared.file.File.{File}
 use Rattle.gtfs_table.specs.declared.file.File.TheVariants as file
-use Rattle.gtfs_columns.specs.declared.code.Code.{Code}
-use Rattle.gtfs_columns.specs.declared.code.Code.TheVariants as code
-use Rattle.gtfs_columns.specs.steps.FieldCodes.{field_codes, in_file_of}
-use Rattle.gtfs_columns.specs.Problems.{Problem}
+use Rattle.gtfs_schema.specs.declared.code.Code.{Code}
+use Rattle.gtfs_schema.specs.declared.code.Code.TheVariants as code
+use Rattle.gtfs_schema.specs.steps.FieldCodes.{field_codes, in_file_of}
+use Rattle.gtfs_schema.specs.Problems.{Problem}
 
 -- the codes of a row's key, of the rows that it names, and of its values beside each other
 abbrev pub beside_codes : List Code

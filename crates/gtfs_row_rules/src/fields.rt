@@ -1,15 +1,15 @@
 ghost use Rattle.std.specs.Prelude.{◌≡◌, ◌&&◌, filter_map, length, map, IfOk, OnOk};
-ghost use Rattle.gtfs_columns.specs.Columns.{columns_of};
-ghost use Rattle.gtfs_columns.specs.steps.ColumnView.{column_of};
-ghost use Rattle.gtfs_columns.specs.steps.FieldCodes.{field_codes, in_file_of, is_found_at, is_in_row, length_code};
+ghost use Rattle.gtfs_schema.specs.Columns.{columns_of};
+ghost use Rattle.gtfs_schema.specs.steps.ColumnView.{column_of};
+ghost use Rattle.gtfs_schema.specs.steps.FieldCodes.{field_codes, in_file_of, is_found_at, is_in_row, length_code};
 ghost use Rattle.gtfs_row_rules.specs.HeaderView.{located, located_of, row_reports, IsHeader};
-ghost use Rattle.gtfs_columns.proofs.FieldRowFacts.{silent_fields};
-ghost use Rattle.gtfs_columns.specs.steps.Found.{Adds};
+ghost use Rattle.gtfs_schema.proofs.FieldRowFacts.{silent_fields};
+ghost use Rattle.gtfs_schema.specs.steps.Found.{Adds};
 ghost use Rattle.gtfs_table.specs.Rows.{records_in};
 
 use crate::rule::RowRules;
-use gtfs_columns::{Code, Column, FileName, Found, Problem, cell_code, length_code};
 use gtfs_field::OutOfMemory;
+use gtfs_schema::{Code, Column, FileName, Found, Problem, cell_code, length_code};
 use gtfs_table::{File, Record, Tables};
 use std::alloc::Global;
 

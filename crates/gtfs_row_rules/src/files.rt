@@ -1,15 +1,15 @@
 ghost use Rattle.std.specs.Prelude.{◌≡◌, ◌==◌, ◌&&◌, [], ◌∷◌, length, not, OnOk};
-ghost use Rattle.gtfs_columns.specs.declared.code.Code.TheVariants as code;
-ghost use Rattle.gtfs_columns.specs.steps.FieldCodes.{in_file_of};
-ghost use Rattle.gtfs_columns.specs.FileRules.{file_empty, file_missing, is_absent, is_needed, is_read, not_utf8};
-ghost use Rattle.gtfs_columns.specs.steps.Found.{Reports};
-ghost use Rattle.gtfs_columns.specs.steps.Picks.{of_codes};
-ghost use Rattle.gtfs_columns.specs.Problems.{kept};
+ghost use Rattle.gtfs_schema.specs.declared.code.Code.TheVariants as code;
+ghost use Rattle.gtfs_schema.specs.steps.FieldCodes.{in_file_of};
+ghost use Rattle.gtfs_schema.specs.FileRules.{file_empty, file_missing, is_absent, is_needed, is_read, not_utf8};
+ghost use Rattle.gtfs_schema.specs.steps.Found.{Reports};
+ghost use Rattle.gtfs_schema.specs.steps.Picks.{of_codes};
+ghost use Rattle.gtfs_schema.specs.Problems.{kept};
 ghost use Rattle.gtfs_table.specs.Rows.{rows};
-ghost use Rattle.gtfs_columns.specs.View.{problem_of};
+ghost use Rattle.gtfs_schema.specs.View.{problem_of};
 
-use gtfs_columns::{Code, FileName, Found, Problem};
 use gtfs_field::OutOfMemory;
+use gtfs_schema::{Code, FileName, Found, Problem};
 use gtfs_table::{File, State, Tables};
 
 /// Reports files that are missing (E01), not UTF-8 (E02) or empty (E05),

@@ -1,23 +1,23 @@
 ghost use Rattle.std.specs.Prelude.{◌≡◌, ◌&&◌, [], ◌∷◌, bytes_eq, map, not, OnOk, Some};
 ghost use Rattle.std.specs.List.{list_any};
-ghost use Rattle.gtfs_columns.specs.declared.code.Code.TheVariants as code;
-ghost use Rattle.gtfs_columns.specs.Columns.{column_named, columns_of};
-ghost use Rattle.gtfs_columns.specs.ColumnRules.{column_missing};
-ghost use Rattle.gtfs_columns.specs.steps.ColumnView.{column_of};
-ghost use Rattle.gtfs_columns.specs.steps.FieldCodes.{in_file_of};
-ghost use Rattle.gtfs_columns.specs.steps.Found.{Reports};
-ghost use Rattle.gtfs_columns.specs.steps.Picks.{of_codes};
-ghost use Rattle.gtfs_columns.specs.Problems.{kept};
-ghost use Rattle.gtfs_columns.specs.Rows.{times_named as times_in};
+ghost use Rattle.gtfs_schema.specs.declared.code.Code.TheVariants as code;
+ghost use Rattle.gtfs_schema.specs.Columns.{column_named, columns_of};
+ghost use Rattle.gtfs_schema.specs.ColumnRules.{column_missing};
+ghost use Rattle.gtfs_schema.specs.steps.ColumnView.{column_of};
+ghost use Rattle.gtfs_schema.specs.steps.FieldCodes.{in_file_of};
+ghost use Rattle.gtfs_schema.specs.steps.Found.{Reports};
+ghost use Rattle.gtfs_schema.specs.steps.Picks.{of_codes};
+ghost use Rattle.gtfs_schema.specs.Problems.{kept};
+ghost use Rattle.gtfs_schema.specs.Rows.{times_named as times_in};
 ghost use Rattle.gtfs_table.specs.Rows.{is_empty};
-ghost use Rattle.gtfs_columns.specs.View.{problem_of};
+ghost use Rattle.gtfs_schema.specs.View.{problem_of};
 
-use gtfs_columns::{
+use gtfs_field::OutOfMemory;
+use gtfs_schema::{
     Code, Column, FileName, Found, Problem, agency_columns, calendar_columns,
     calendar_dates_columns, frequencies_columns, is_required, routes_columns, stop_times_columns,
     stops_columns, transfers_columns, trips_columns,
 };
-use gtfs_field::OutOfMemory;
 use gtfs_table::{File, Tables};
 
 /// Reports what is wrong with the headers of the nine files: a required column that is missing

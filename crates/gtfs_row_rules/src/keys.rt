@@ -2,12 +2,12 @@ ghost use Rattle.std.specs.Prelude.{◌≡◌, ◌||◌, ℕ, List, Option, [], 
 ghost use Rattle.std.specs.BTreeSet.{contains};
 ghost use Rattle.std.specs.Cmp.Lexicographic.{pointwise};
 ghost use Rattle.std.specs.Ordering.{eq_by_cmp, is_eq};
-ghost use Rattle.gtfs_columns.specs.KeyRules.{all_there};
-ghost use Rattle.gtfs_columns.specs.declared.code.Code.TheVariants as Code;
-ghost use Rattle.gtfs_columns.specs.Reads.{amount_of};
-ghost use Rattle.gtfs_columns.specs.Values.{Value, amount, if_there, value_eq, word};
-ghost use Rattle.gtfs_columns.proofs.RuleFacts.{silent_column};
-ghost use Rattle.gtfs_columns.specs.steps.Picks.{at_column};
+ghost use Rattle.gtfs_schema.specs.KeyRules.{all_there};
+ghost use Rattle.gtfs_schema.specs.declared.code.Code.TheVariants as Code;
+ghost use Rattle.gtfs_schema.specs.Reads.{amount_of};
+ghost use Rattle.gtfs_schema.specs.Values.{Value, amount, if_there, value_eq, word};
+ghost use Rattle.gtfs_schema.proofs.RuleFacts.{silent_column};
+ghost use Rattle.gtfs_schema.specs.steps.Picks.{at_column};
 ghost use Rattle.gtfs_row_rules.specs.KeyOrder.{numbered_alike, six_alike};
 ghost use Rattle.gtfs_row_rules.specs.KeyView.{end_part, has_key, kind_of_number, numbered_in, numbered_key, repeats_key};
 ghost use Rattle.gtfs_row_rules.specs.RowRules.{HoldsWhere};
@@ -16,8 +16,8 @@ ghost use Rattle.gtfs_table.specs.Tables.{field_under, record_at};
 ghost use Rattle.gtfs_table.specs.declared.file.File.TheVariants as files;
 
 use crate::rule::RowRules;
-use gtfs_columns::{Code, FileName, Found, Problem, values};
 use gtfs_field::OutOfMemory;
+use gtfs_schema::{Code, FileName, Found, Problem, values};
 use gtfs_table::{File, Record, Tables};
 use std::alloc::Global;
 use std::collections::BTreeSet;

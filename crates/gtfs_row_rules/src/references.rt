@@ -1,14 +1,14 @@
 ghost use Rattle.std.specs.Prelude.{ℕ, codes};
-ghost use Rattle.gtfs_columns.specs.steps.FeedIds.{AreIdsOf};
-ghost use Rattle.gtfs_columns.specs.declared.code.Code.TheVariants as Code;
+ghost use Rattle.gtfs_schema.specs.steps.FeedIds.{AreIdsOf};
+ghost use Rattle.gtfs_schema.specs.declared.code.Code.TheVariants as Code;
 ghost use Rattle.gtfs_row_rules.specs.RowRules.{HoldsWhere};
 ghost use Rattle.gtfs_table.specs.Rows.{records_in};
 ghost use Rattle.gtfs_table.specs.Tables.{field_under, record_at};
-ghost use Rattle.gtfs_columns.specs.Rows.{text_in};
-ghost use Rattle.gtfs_columns.specs.steps.UnknownIds.{is_unknown, is_unknown_in_both};
+ghost use Rattle.gtfs_schema.specs.Rows.{text_in};
+ghost use Rattle.gtfs_schema.specs.steps.UnknownIds.{is_unknown, is_unknown_in_both};
 
 use crate::rule::Rule;
-use gtfs_columns::{FeedIds, Finder, Ids, values};
+use gtfs_schema::{FeedIds, Finder, Ids, values};
 use gtfs_table::{File, Record, Tables};
 
 // The id in a column names no row.

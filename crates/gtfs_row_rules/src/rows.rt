@@ -1,9 +1,9 @@
 ghost use Rattle.std.specs.Prelude.{◌≡◌, ◌≢◌, codes, map, OnOk};
-ghost use Rattle.gtfs_columns.specs.PresenceRules.{has_many_agencies};
-ghost use Rattle.gtfs_columns.specs.steps.FeedIds.{AreIdsOf, AreNetworkIdsOf};
-ghost use Rattle.gtfs_columns.specs.steps.Found.{Reports};
-ghost use Rattle.gtfs_columns.specs.steps.Ids.{first_rows};
-ghost use Rattle.gtfs_columns.specs.steps.StopTypes.{AreStopTypes};
+ghost use Rattle.gtfs_schema.specs.PresenceRules.{has_many_agencies};
+ghost use Rattle.gtfs_schema.specs.steps.FeedIds.{AreIdsOf, AreNetworkIdsOf};
+ghost use Rattle.gtfs_schema.specs.steps.Found.{Reports};
+ghost use Rattle.gtfs_schema.specs.steps.Ids.{first_rows};
+ghost use Rattle.gtfs_schema.specs.steps.StopTypes.{AreStopTypes};
 ghost use Rattle.gtfs_row_rules.specs.RowCodes.{in_rows, in_rows_of};
 
 use crate::fields::Header;
@@ -18,12 +18,12 @@ use crate::single_keys::repeated;
 use crate::spans::{ends_at_start, ends_before_start};
 use crate::stop_kinds::{has_other_parent, names_other};
 use crate::zones::has_other_zone;
-use gtfs_columns::{
+use gtfs_field::OutOfMemory;
+use gtfs_schema::{
     Code, FeedIds, Found, Ids, NetworkIds, agency_columns, calendar_columns,
     calendar_dates_columns, frequencies_columns, routes_columns, stops_columns, transfers_columns,
     trips_columns,
 };
-use gtfs_field::OutOfMemory;
 use gtfs_table::{File, Tables};
 use std::alloc::Global;
 

@@ -1,15 +1,15 @@
 ghost use Rattle.std.specs.Prelude.{◌≡◌, ◌||◌, ◌++◌, ⊤, ℕ, Bool, List, [], ◌∷◌, false, OnOk};
-ghost use Rattle.gtfs_columns.specs.steps.Found.{Reports};
-ghost use Rattle.gtfs_columns.specs.steps.Picks.{at_column};
-ghost use Rattle.gtfs_columns.proofs.RuleFacts.{silent_column};
+ghost use Rattle.gtfs_schema.specs.steps.Found.{Reports};
+ghost use Rattle.gtfs_schema.specs.steps.Picks.{at_column};
+ghost use Rattle.gtfs_schema.proofs.RuleFacts.{silent_column};
 ghost use Rattle.gtfs_row_rules.specs.RowRules.{HoldsWhere, IsNext, Picks, ReportsOfRow};
 ghost use Rattle.gtfs_row_rules.specs.RowRules.{IsSilent, both_silent};
 ghost use Rattle.gtfs_table.specs.Rows.{records_in};
 ghost use Rattle.gtfs_table.specs.Tables.{Dataset, record_at};
 ghost use Rattle.gtfs_table.specs.declared.file.File.{File};
 
-use gtfs_columns::{Code, FileName, Found, Problem};
 use gtfs_field::OutOfMemory;
+use gtfs_schema::{Code, FileName, Found, Problem};
 use gtfs_table::{File, Record, Tables};
 
 // A rule about the rows of one file, by the number of a row and its record.

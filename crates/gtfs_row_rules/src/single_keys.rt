@@ -1,12 +1,12 @@
-ghost use Rattle.gtfs_columns.specs.Rows.{text_in};
-ghost use Rattle.gtfs_columns.specs.declared.code.Code.TheVariants as Code;
+ghost use Rattle.gtfs_schema.specs.Rows.{text_in};
+ghost use Rattle.gtfs_schema.specs.declared.code.Code.TheVariants as Code;
 ghost use Rattle.gtfs_row_rules.specs.RowRules.{HoldsWhere};
 ghost use Rattle.gtfs_row_rules.specs.SingleKeys.{is_repeated};
 ghost use Rattle.gtfs_table.specs.Rows.{records_in};
 ghost use Rattle.gtfs_table.specs.Tables.{field_under, record_at};
 
 use crate::rule::Rule;
-use gtfs_columns::{Finder, Ids, values};
+use gtfs_schema::{Finder, Ids, values};
 use gtfs_table::{File, Record, Tables};
 
 // An earlier row has the id of a row.

@@ -1,14 +1,14 @@
 ghost use Rattle.std.specs.Prelude.{◌≡◌, ℕ, int_le, int_lt};
-ghost use Rattle.gtfs_columns.specs.Columns.{date, time};
-ghost use Rattle.gtfs_columns.specs.Reads.{amount_of};
-ghost use Rattle.gtfs_columns.specs.Values.{if_both};
-ghost use Rattle.gtfs_columns.specs.PeriodRules.{ends_at_start};
-ghost use Rattle.gtfs_columns.specs.ServiceRules.{ends_before_start};
+ghost use Rattle.gtfs_schema.specs.Columns.{date, time};
+ghost use Rattle.gtfs_schema.specs.Reads.{amount_of};
+ghost use Rattle.gtfs_schema.specs.Values.{if_both};
+ghost use Rattle.gtfs_schema.specs.PeriodRules.{ends_at_start};
+ghost use Rattle.gtfs_schema.specs.ServiceRules.{ends_before_start};
 ghost use Rattle.gtfs_table.specs.Rows.{records_in};
 ghost use Rattle.gtfs_table.specs.Tables.{field_under, record_at};
 
 use crate::rule::Rule;
-use gtfs_columns::values;
+use gtfs_schema::values;
 use gtfs_table::{File, Record, Tables};
 
 // A row of calendar.txt ends before it starts.

@@ -1,13 +1,13 @@
 ghost use Rattle.std.specs.Prelude.{◌≡◌, ℕ, not, bytes_eq, codes, option_map};
-ghost use Rattle.gtfs_columns.specs.Columns.{id};
-ghost use Rattle.gtfs_columns.specs.PresenceRules.{first_zone, has_other_zone};
-ghost use Rattle.gtfs_columns.specs.Reads.{word_of};
-ghost use Rattle.gtfs_columns.specs.Values.{if_both};
+ghost use Rattle.gtfs_schema.specs.Columns.{id};
+ghost use Rattle.gtfs_schema.specs.PresenceRules.{first_zone, has_other_zone};
+ghost use Rattle.gtfs_schema.specs.Reads.{word_of};
+ghost use Rattle.gtfs_schema.specs.Values.{if_both};
 ghost use Rattle.gtfs_table.specs.Rows.{records_in};
 ghost use Rattle.gtfs_table.specs.Tables.{column_of, field_under, record_at};
 
 use crate::rule::Rule;
-use gtfs_columns::values;
+use gtfs_schema::values;
 use gtfs_table::{File, Record, Tables};
 
 // The zone of an agency is another than that of the first agency with a readable one.

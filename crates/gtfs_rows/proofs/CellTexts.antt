@@ -16,10 +16,10 @@ use Rattle.gtfs_field.proofs.CoordinateTexts.{coordinate_of-text}
 use Rattle.gtfs_table.specs.Blanks.{cut}
 use Rattle.gtfs_table.specs.Rows.{is_empty}
 use Rattle.gtfs_table.proofs.BlankFacts.{no_text as empty-is}
-use Rattle.gtfs_columns.specs.Columns.{Kind, id, text, count, choice, time, date, colour, coordinate}
-use Rattle.gtfs_columns.specs.Values.{Value, word, amount, read_as, readable, has_control, value_of_count, measured, one_of}
-use Rattle.gtfs_columns.proofs.SiteFacts.{text_is}
-use Rattle.gtfs_columns.proofs.PlainTexts.{plain-itself as plain-clean}
+use Rattle.gtfs_schema.specs.Columns.{Kind, id, text, count, choice, time, date, colour, coordinate}
+use Rattle.gtfs_schema.specs.Values.{Value, word, amount, read_as, readable, has_control, value_of_count, measured, one_of}
+use Rattle.gtfs_schema.proofs.SiteFacts.{text_is}
+use Rattle.gtfs_schema.proofs.PlainTexts.{plain-itself as plain-clean}
 use Rattle.gtfs_rows.specs.Cells.{is_clean, is_filled, is_between, is_of_kind, text_of}
 use Rattle.gtfs_rows.proofs.Visible.{are_visible, cut-visible, visible-count, visible-time, visible-date, visible-colour, visible-coordinate}
 

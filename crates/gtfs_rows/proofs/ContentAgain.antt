@@ -13,9 +13,9 @@ use Rattle.gtfs_field.specs.TextOrder.{text_cmp}
 use Rattle.gtfs_table.specs.declared.file.File.TheVariants as file
 use Rattle.gtfs_table.specs.Rows.{rows, is_empty}
 use Rattle.gtfs_table.proofs.BlankFacts.{no_text}
-use Rattle.gtfs_columns.specs.Rows.{word_in}
-use Rattle.gtfs_columns.specs.Values.{as_word}
-use Rattle.gtfs_columns.proofs.SiteFacts.{text_is}
+use Rattle.gtfs_schema.specs.Rows.{word_in}
+use Rattle.gtfs_schema.specs.Values.{as_word}
+use Rattle.gtfs_schema.proofs.SiteFacts.{text_is}
 use Rattle.gtfs_rows.specs.Content.{Content}
 use Rattle.gtfs_rows.specs.Order.{by_key, transfer_key, transfer_key_cmp}
 use Rattle.gtfs_rows.specs.Reading.{text_at, first_agency, agency_in, route_in, transfer_in, content_of}

@@ -14,10 +14,10 @@ use Rattle.gtfs_table.specs.Rows.{is_row, records_in, rows}
 use Rattle.gtfs_table.specs.Tables.{Dataset}
 use Rattle.gtfs_table.specs.declared.file.File.{File}
 use Rattle.gtfs_table.specs.declared.file.File.TheVariants as file
-use Rattle.gtfs_columns.specs.Calendars.{service_rows, first_service_row, week_in, exception_in}
-use Rattle.gtfs_columns.specs.Rows.{word_in}
-use Rattle.gtfs_columns.specs.Values.{is_word}
-use Rattle.gtfs_columns.proofs.ValueFacts.{is_word_some}
+use Rattle.gtfs_schema.specs.Calendars.{service_rows, first_service_row, week_in, exception_in}
+use Rattle.gtfs_schema.specs.Rows.{word_in}
+use Rattle.gtfs_schema.specs.Values.{is_word}
+use Rattle.gtfs_schema.proofs.ValueFacts.{is_word_some}
 use Rattle.gtfs_rows.specs.Order.{Ascends, by_key, transfer_key, transfer_key_cmp}
 use Rattle.gtfs_rows.specs.Reading.{text_at, agency_in, stop_in, route_in, stop_row_in, frequency_in, rows_of, trip_in, transfer_in, services_named, service_row_in, content_of}
 use Rattle.gtfs_rows.specs.RowCells.{week_list, stop_times_of, frequencies_of, weeks_of, exceptions_of}

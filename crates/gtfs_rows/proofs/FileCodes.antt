@@ -14,13 +14,13 @@ use Rattle.gtfs_table.specs.Tables.{table_of, table_state}
 use Rattle.gtfs_table.specs.declared.file.File.{File}
 use Rattle.gtfs_table.specs.declared.file.File.TheVariants as file
 use Rattle.gtfs_table.specs.Rows.{rows, has_no_record, records_in}
-use Rattle.gtfs_columns.specs.Columns.{Column, columns_of, column_named}
-use Rattle.gtfs_columns.specs.ColumnRules.{is_required, column_missing, column_twice}
-use Rattle.gtfs_columns.specs.FileRules.{is_absent, is_needed, is_at, is_read, is_not_utf8_state, file_missing, not_utf8, file_empty}
-use Rattle.gtfs_columns.specs.Rows.{is_file, header, is_named, times_named, amount_in}
-use Rattle.gtfs_columns.specs.ServiceRules.{ends_before_start, end_before_start}
-use Rattle.gtfs_columns.specs.Values.{if_there, if_both}
-use Rattle.gtfs_columns.proofs.NamedFacts.{kept_name_is}
+use Rattle.gtfs_schema.specs.Columns.{Column, columns_of, column_named}
+use Rattle.gtfs_schema.specs.ColumnRules.{is_required, column_missing, column_twice}
+use Rattle.gtfs_schema.specs.FileRules.{is_absent, is_needed, is_at, is_read, is_not_utf8_state, file_missing, not_utf8, file_empty}
+use Rattle.gtfs_schema.specs.Rows.{is_file, header, is_named, times_named, amount_in}
+use Rattle.gtfs_schema.specs.ServiceRules.{ends_before_start, end_before_start}
+use Rattle.gtfs_schema.specs.Values.{if_there, if_both}
+use Rattle.gtfs_schema.proofs.NamedFacts.{kept_name_is}
 use Rattle.gtfs_rows.specs.Content.{Content}
 use Rattle.gtfs_rows.specs.RowCells.{agency_cells, week_cells, week_list, weeks_of}
 use Rattle.gtfs_rows.specs.Sound.{IsSound, is_sound_service, is_sound_week, if_given}

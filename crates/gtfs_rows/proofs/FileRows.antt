@@ -10,12 +10,12 @@ use Rattle.gtfs_table.specs.Tables.{Records, record_at}
 use Rattle.gtfs_table.specs.declared.file.File.{File}
 use Rattle.gtfs_table.specs.declared.file.File.TheVariants as file
 use Rattle.gtfs_table.specs.Rows.{records_in, is_row, rows, is_empty}
-use Rattle.gtfs_columns.specs.Columns.{Kind, id, text, count, choice, time, date, colour, coordinate, Empty, refused, nothing, means, Column, columns_of, column_named}
-use Rattle.gtfs_columns.specs.ColumnRules.{is_required}
-use Rattle.gtfs_columns.specs.FieldRules.{in_row, is_id, is_form_fault, is_range_fault, value_empty, value_unreadable, value_out_of_range, control_in_id}
-use Rattle.gtfs_columns.specs.Rows.{is_named, text_in}
-use Rattle.gtfs_columns.specs.Values.{word, amount, read_as, has_control, if_there}
-use Rattle.gtfs_columns.proofs.NamedFacts.{kept_name_filled}
+use Rattle.gtfs_schema.specs.Columns.{Kind, id, text, count, choice, time, date, colour, coordinate, Empty, refused, nothing, means, Column, columns_of, column_named}
+use Rattle.gtfs_schema.specs.ColumnRules.{is_required}
+use Rattle.gtfs_schema.specs.FieldRules.{in_row, is_id, is_form_fault, is_range_fault, value_empty, value_unreadable, value_out_of_range, control_in_id}
+use Rattle.gtfs_schema.specs.Rows.{is_named, text_in}
+use Rattle.gtfs_schema.specs.Values.{word, amount, read_as, has_control, if_there}
+use Rattle.gtfs_schema.proofs.NamedFacts.{kept_name_filled}
 use Rattle.gtfs_rows.specs.Cells.{Cell, is_cell, are_cells, takes_none, cell_text, text_of, record_text}
 use Rattle.gtfs_rows.specs.Named.{cell_named, text_named}
 use Rattle.gtfs_rows.specs.Written.{records_of_cells, dataset_of_cells}

@@ -12,7 +12,7 @@ use Rattle.std.proofs.lemmas.List.{map-append}
 use Rattle.std.proofs.lemmas.List.Elements.{filter-append, All-head, All-tail, Contains-append_cases, Contains-append_left, Contains-append_right, Contains-get_or, All-append, All-contains}
 use Rattle.std.proofs.lemmas.List.Kept.{AllPairs-cons}
 use Rattle.gtfs_field.specs.TextOrder.{text_cmp}
-use Rattle.gtfs_columns.proofs.SiteFacts.{text_is, text_itself}
+use Rattle.gtfs_schema.proofs.SiteFacts.{text_is, text_itself}
 use Rattle.gtfs_rows.specs.RowCells.{held_by}
 use Rattle.gtfs_rows.proofs.SameElements.{pairs-head, pairs-tail, contains-none, contains-first, contains-later, contains-cases, contains-map, contains-from_map, pairs-map}
 

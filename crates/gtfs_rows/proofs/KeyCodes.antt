@@ -12,12 +12,12 @@ use Rattle.gtfs_days.specs.declared.week.Week.{Week}
 use Rattle.gtfs_table.specs.declared.file.File.{File}
 use Rattle.gtfs_table.specs.declared.file.File.TheVariants as file
 use Rattle.gtfs_table.specs.Rows.{is_row, records_in, rows, is_empty}
-use Rattle.gtfs_columns.specs.Columns.{columns_of}
-use Rattle.gtfs_columns.specs.KeyRules.{all_there, key_in, same_key, key_twice}
-use Rattle.gtfs_columns.specs.References.{reported_column}
-use Rattle.gtfs_columns.specs.Values.{Value, word, amount, value_eq, if_both}
-use Rattle.gtfs_columns.proofs.EachFacts.{none_in_range}
-use Rattle.gtfs_columns.proofs.SiteFacts.{text_is, text_itself}
+use Rattle.gtfs_schema.specs.Columns.{columns_of}
+use Rattle.gtfs_schema.specs.KeyRules.{all_there, key_in, same_key, key_twice}
+use Rattle.gtfs_schema.specs.References.{reported_column}
+use Rattle.gtfs_schema.specs.Values.{Value, word, amount, value_eq, if_both}
+use Rattle.gtfs_schema.proofs.EachFacts.{none_in_range}
+use Rattle.gtfs_schema.proofs.SiteFacts.{text_is, text_itself}
 use Rattle.gtfs_rows.specs.Cells.{Cell, are_cells}
 use Rattle.gtfs_rows.specs.Content.{Content}
 use Rattle.gtfs_rows.specs.RowCells.{cells_in, value_of_number, id_cell, week_list, agency_cells, stop_cells, route_cells, trip_cells, stop_time_cells, week_cells, exception_cells, frequency_cells, stop_times_of, weeks_of, exceptions_of, frequencies_of}

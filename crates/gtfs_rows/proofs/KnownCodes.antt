@@ -10,12 +10,12 @@ use Rattle.gtfs_table.specs.declared.file.File.{File}
 use Rattle.gtfs_table.specs.declared.file.File.TheVariants as file
 use Rattle.gtfs_table.specs.Rows.{is_row, records_in, is_empty}
 use Rattle.gtfs_table.proofs.BlankFacts.{no_text}
-use Rattle.gtfs_columns.specs.Columns.{columns_of, id}
-use Rattle.gtfs_columns.specs.KeyRules.{is_known, unknown_reference}
-use Rattle.gtfs_columns.specs.References.{stop_targets, route_targets, trip_targets}
-use Rattle.gtfs_columns.specs.Rows.{is_file, text_in, value_in, row_with}
-use Rattle.gtfs_columns.specs.Values.{word}
-use Rattle.gtfs_columns.proofs.SiteFacts.{text_itself}
+use Rattle.gtfs_schema.specs.Columns.{columns_of, id}
+use Rattle.gtfs_schema.specs.KeyRules.{is_known, unknown_reference}
+use Rattle.gtfs_schema.specs.References.{stop_targets, route_targets, trip_targets}
+use Rattle.gtfs_schema.specs.Rows.{is_file, text_in, value_in, row_with}
+use Rattle.gtfs_schema.specs.Values.{word}
+use Rattle.gtfs_schema.proofs.SiteFacts.{text_itself}
 use Rattle.gtfs_rows.specs.Cells.{cell_text}
 use Rattle.gtfs_rows.specs.Content.{Content}
 use Rattle.gtfs_rows.specs.Named.{cell_named, text_named}

@@ -11,14 +11,14 @@ use Rattle.gtfs_table.specs.Tables.{Dataset, table_of, table_state}
 use Rattle.gtfs_table.specs.declared.file.File.TheVariants as file
 use Rattle.gtfs_table.specs.declared.state.State.{State}
 use Rattle.gtfs_table.specs.declared.state.State.TheVariants as state
-use Rattle.gtfs_columns.specs.declared.code.Code.TheVariants as code
-use Rattle.gtfs_columns.specs.Columns.{id, text}
-use Rattle.gtfs_columns.specs.FileRules.{is_absent_state, is_not_utf8_state, is_read_state, is_read}
-use Rattle.gtfs_columns.specs.PresenceRules.{has_many_agencies, lacks_agency, lacks_name, first_zone, has_other_zone}
-use Rattle.gtfs_columns.specs.Problems.{Passes}
-use Rattle.gtfs_columns.specs.Rows.{text_in, value_in, word_in, is_readable_in, is_empty_in, row_with}
-use Rattle.gtfs_columns.specs.Values.{if_both}
-use Rattle.gtfs_columns.proofs.SiteFacts.{text_is, text_itself}
+use Rattle.gtfs_schema.specs.declared.code.Code.TheVariants as code
+use Rattle.gtfs_schema.specs.Columns.{id, text}
+use Rattle.gtfs_schema.specs.FileRules.{is_absent_state, is_not_utf8_state, is_read_state, is_read}
+use Rattle.gtfs_schema.specs.PresenceRules.{has_many_agencies, lacks_agency, lacks_name, first_zone, has_other_zone}
+use Rattle.gtfs_schema.specs.Problems.{Passes}
+use Rattle.gtfs_schema.specs.Rows.{text_in, value_in, word_in, is_readable_in, is_empty_in, row_with}
+use Rattle.gtfs_schema.specs.Values.{if_both}
+use Rattle.gtfs_schema.proofs.SiteFacts.{text_is, text_itself}
 use Rattle.gtfs_rows.specs.Order.{by_key}
 use Rattle.gtfs_rows.specs.Reading.{text_at, agency_in, first_agency, route_in, content_of}
 use Rattle.gtfs_rows.specs.Rows.{Agency}

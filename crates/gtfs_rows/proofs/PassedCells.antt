@@ -14,11 +14,11 @@ use Rattle.gtfs_table.specs.Rows.{is_row, records_in, rows, is_empty}
 use Rattle.gtfs_table.specs.Tables.{Dataset}
 use Rattle.gtfs_table.specs.declared.file.File.{File}
 use Rattle.gtfs_table.specs.declared.file.File.TheVariants as file
-use Rattle.gtfs_columns.specs.Calendars.{week_in, exception_in, serves_weekday, field_number as signed_in}
-use Rattle.gtfs_columns.specs.Columns.{Kind, id, text, count, choice, time, date, colour, coordinate, column_named, columns_of, required, optional, defaulting, up_to, positive, route_types}
-use Rattle.gtfs_columns.specs.Problems.{Passes}
-use Rattle.gtfs_columns.specs.Rows.{word_in}
-use Rattle.gtfs_columns.specs.Values.{Value, word, amount, as_word}
+use Rattle.gtfs_schema.specs.Calendars.{week_in, exception_in, serves_weekday, field_number as signed_in}
+use Rattle.gtfs_schema.specs.Columns.{Kind, id, text, count, choice, time, date, colour, coordinate, column_named, columns_of, required, optional, defaulting, up_to, positive, route_types}
+use Rattle.gtfs_schema.specs.Problems.{Passes}
+use Rattle.gtfs_schema.specs.Rows.{word_in}
+use Rattle.gtfs_schema.specs.Values.{Value, word, amount, as_word}
 use Rattle.gtfs_rows.specs.Cells.{is_clean, is_of_kind, is_cell, are_cells}
 use Rattle.gtfs_rows.specs.Order.{transfer_key, transfer_key_cmp}
 use Rattle.gtfs_rows.specs.Reading.{text_at, number_in, number_at, agency_in, stop_in, first_agency, route_in, stop_row_in, frequency_in, trip_in, transfer_in, content_of}

@@ -9,13 +9,13 @@ use Rattle.gtfs_field.proofs.NumberFacts.{neither_less as same_number}
 use Rattle.gtfs_table.specs.Rows.{is_row, records_in, rows}
 use Rattle.gtfs_table.specs.Tables.{Dataset}
 use Rattle.gtfs_table.specs.declared.file.File.TheVariants as file
-use Rattle.gtfs_columns.specs.declared.code.Code.TheVariants as code
-use Rattle.gtfs_columns.specs.Columns.{time}
-use Rattle.gtfs_columns.specs.PeriodRules.{period_start, period_end, ends_at_start, share_second, periods_meet, overlaps_earlier}
-use Rattle.gtfs_columns.specs.Problems.{Passes}
-use Rattle.gtfs_columns.specs.Rows.{word_in}
-use Rattle.gtfs_columns.specs.Values.{if_there, if_both, is_word}
-use Rattle.gtfs_columns.proofs.SiteFacts.{text_itself}
+use Rattle.gtfs_schema.specs.declared.code.Code.TheVariants as code
+use Rattle.gtfs_schema.specs.Columns.{time}
+use Rattle.gtfs_schema.specs.PeriodRules.{period_start, period_end, ends_at_start, share_second, periods_meet, overlaps_earlier}
+use Rattle.gtfs_schema.specs.Problems.{Passes}
+use Rattle.gtfs_schema.specs.Rows.{word_in}
+use Rattle.gtfs_schema.specs.Values.{if_there, if_both, is_word}
+use Rattle.gtfs_schema.proofs.SiteFacts.{text_itself}
 use Rattle.gtfs_rows.specs.Order.{by_key}
 use Rattle.gtfs_rows.specs.Reading.{number_at, frequency_in, rows_of}
 use Rattle.gtfs_rows.specs.Rows.{Frequency}

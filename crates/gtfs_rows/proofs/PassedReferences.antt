@@ -15,18 +15,18 @@ use Rattle.gtfs_table.specs.Rows.{is_row, records_in, rows}
 use Rattle.gtfs_table.specs.Tables.{Dataset}
 use Rattle.gtfs_table.specs.declared.file.File.{File}
 use Rattle.gtfs_table.specs.declared.file.File.TheVariants as file
-use Rattle.gtfs_columns.specs.declared.code.Code.{Code}
-use Rattle.gtfs_columns.specs.declared.code.Code.TheVariants as code
-use Rattle.gtfs_columns.specs.Codes.{is_error}
-use Rattle.gtfs_columns.specs.Columns.{id, column_named, required, up_to}
-use Rattle.gtfs_columns.specs.KeyRules.{is_known}
-use Rattle.gtfs_columns.specs.Problems.{Passes, holds_in, kept}
-use Rattle.gtfs_columns.specs.References.{references}
-use Rattle.gtfs_columns.specs.Rows.{is_file, text_in, value_in, word_in, choice_in, row_with}
-use Rattle.gtfs_columns.specs.StopRules.{names_none_of}
-use Rattle.gtfs_columns.specs.Values.{if_there, is_one_of}
-use Rattle.gtfs_columns.proofs.BoolFacts.{same_test}
-use Rattle.gtfs_columns.proofs.SiteFacts.{text_is, text_itself}
+use Rattle.gtfs_schema.specs.declared.code.Code.{Code}
+use Rattle.gtfs_schema.specs.declared.code.Code.TheVariants as code
+use Rattle.gtfs_schema.specs.Codes.{is_error}
+use Rattle.gtfs_schema.specs.Columns.{id, column_named, required, up_to}
+use Rattle.gtfs_schema.specs.KeyRules.{is_known}
+use Rattle.gtfs_schema.specs.Problems.{Passes, holds_in, kept}
+use Rattle.gtfs_schema.specs.References.{references}
+use Rattle.gtfs_schema.specs.Rows.{is_file, text_in, value_in, word_in, choice_in, row_with}
+use Rattle.gtfs_schema.specs.StopRules.{names_none_of}
+use Rattle.gtfs_schema.specs.Values.{if_there, is_one_of}
+use Rattle.gtfs_schema.proofs.BoolFacts.{same_test}
+use Rattle.gtfs_schema.proofs.SiteFacts.{text_is, text_itself}
 use Rattle.gtfs_rows.specs.Order.{by_key}
 use Rattle.gtfs_rows.specs.Reading.{text_at, number_at, stop_in, agency_in, route_in, trip_in, services_named, service_row_in, content_of}
 use Rattle.gtfs_rows.specs.Rows.{Stop}

@@ -11,14 +11,14 @@ use Rattle.gtfs_table.specs.Rows.{is_row, records_in, rows}
 use Rattle.gtfs_table.specs.Tables.{Dataset}
 use Rattle.gtfs_table.specs.declared.file.File.{File}
 use Rattle.gtfs_table.specs.declared.file.File.TheVariants as file
-use Rattle.gtfs_columns.specs.declared.code.Code.TheVariants as code
-use Rattle.gtfs_columns.specs.Calendars.{service_rows, first_service_row, week_in, exception_in, field_number}
-use Rattle.gtfs_columns.specs.Columns.{id, date, column_named, required}
-use Rattle.gtfs_columns.specs.Problems.{Passes}
-use Rattle.gtfs_columns.specs.Rows.{word_in}
-use Rattle.gtfs_columns.specs.ServiceRules.{ends_before_start}
-use Rattle.gtfs_columns.specs.Values.{is_word, if_both}
-use Rattle.gtfs_columns.proofs.SiteFacts.{text_itself}
+use Rattle.gtfs_schema.specs.declared.code.Code.TheVariants as code
+use Rattle.gtfs_schema.specs.Calendars.{service_rows, first_service_row, week_in, exception_in, field_number}
+use Rattle.gtfs_schema.specs.Columns.{id, date, column_named, required}
+use Rattle.gtfs_schema.specs.Problems.{Passes}
+use Rattle.gtfs_schema.specs.Rows.{word_in}
+use Rattle.gtfs_schema.specs.ServiceRules.{ends_before_start}
+use Rattle.gtfs_schema.specs.Values.{is_word, if_both}
+use Rattle.gtfs_schema.proofs.SiteFacts.{text_itself}
 use Rattle.gtfs_rows.specs.Order.{by_key}
 use Rattle.gtfs_rows.specs.Reading.{text_at, services_named, service_row_in, content_of}
 use Rattle.gtfs_rows.specs.Rows.{ServiceRow}

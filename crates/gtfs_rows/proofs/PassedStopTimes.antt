@@ -11,15 +11,15 @@ use Rattle.std.proofs.lemmas.Bool.Decides.{Decides-int_eq, nat_tests}
 use Rattle.gtfs_table.specs.Rows.{is_row, records_in, rows}
 use Rattle.gtfs_table.specs.Tables.{Dataset}
 use Rattle.gtfs_table.specs.declared.file.File.TheVariants as file
-use Rattle.gtfs_columns.specs.declared.code.Code.TheVariants as code
-use Rattle.gtfs_columns.specs.Columns.{count, time, column_named, optional}
-use Rattle.gtfs_columns.specs.KeyRules.{all_there, key_in, same_key}
-use Rattle.gtfs_columns.specs.Problems.{Passes}
-use Rattle.gtfs_columns.specs.Rows.{value_in, amount_in, is_readable_in, is_empty_in}
-use Rattle.gtfs_columns.specs.TripRules.{sequence_in, is_row_of, rows_of_trip, is_less, is_earlier_equal, stands_before, leaves_early, is_clear, arrival_in, departure_in, timed_rows, is_timed_before, goes_back}
-use Rattle.gtfs_columns.specs.Values.{word, value_eq, if_there, if_both, is_word}
-use Rattle.gtfs_columns.proofs.SiteFacts.{text_itself}
-use Rattle.gtfs_columns.proofs.ValueFacts.{word_value}
+use Rattle.gtfs_schema.specs.declared.code.Code.TheVariants as code
+use Rattle.gtfs_schema.specs.Columns.{count, time, column_named, optional}
+use Rattle.gtfs_schema.specs.KeyRules.{all_there, key_in, same_key}
+use Rattle.gtfs_schema.specs.Problems.{Passes}
+use Rattle.gtfs_schema.specs.Rows.{value_in, amount_in, is_readable_in, is_empty_in}
+use Rattle.gtfs_schema.specs.TripRules.{sequence_in, is_row_of, rows_of_trip, is_less, is_earlier_equal, stands_before, leaves_early, is_clear, arrival_in, departure_in, timed_rows, is_timed_before, goes_back}
+use Rattle.gtfs_schema.specs.Values.{word, value_eq, if_there, if_both, is_word}
+use Rattle.gtfs_schema.proofs.SiteFacts.{text_itself}
+use Rattle.gtfs_schema.proofs.ValueFacts.{word_value}
 use Rattle.gtfs_rows.specs.Reading.{number_in, number_at, stop_row_in}
 use Rattle.gtfs_rows.specs.RowCells.{value_of_number}
 use Rattle.gtfs_rows.specs.Sound.{comes, leaves, keeps_time}

@@ -12,13 +12,13 @@ use Rattle.gtfs_table.specs.Rows.{is_row, records_in, rows}
 use Rattle.gtfs_table.specs.Tables.{Dataset}
 use Rattle.gtfs_table.specs.declared.file.File.{File}
 use Rattle.gtfs_table.specs.declared.file.File.TheVariants as file
-use Rattle.gtfs_columns.specs.declared.code.Code.TheVariants as code
-use Rattle.gtfs_columns.specs.Columns.{id, text, coordinate, up_to}
-use Rattle.gtfs_columns.specs.PresenceRules.{is_of_type, lacks_name_or_position, has_wrong_parent}
-use Rattle.gtfs_columns.specs.Problems.{Passes}
-use Rattle.gtfs_columns.specs.Rows.{text_in, value_in, word_in, amount_in, choice_in, is_readable_in, is_empty_in, row_with}
-use Rattle.gtfs_columns.specs.StopRules.{names_none_of, has_parent_of_other_type}
-use Rattle.gtfs_columns.specs.Values.{if_there, is_count_between, is_one_of}
+use Rattle.gtfs_schema.specs.declared.code.Code.TheVariants as code
+use Rattle.gtfs_schema.specs.Columns.{id, text, coordinate, up_to}
+use Rattle.gtfs_schema.specs.PresenceRules.{is_of_type, lacks_name_or_position, has_wrong_parent}
+use Rattle.gtfs_schema.specs.Problems.{Passes}
+use Rattle.gtfs_schema.specs.Rows.{text_in, value_in, word_in, amount_in, choice_in, is_readable_in, is_empty_in, row_with}
+use Rattle.gtfs_schema.specs.StopRules.{names_none_of, has_parent_of_other_type}
+use Rattle.gtfs_schema.specs.Values.{if_there, is_count_between, is_one_of}
 use Rattle.gtfs_rows.specs.Cells.{is_of_kind, is_between as lies_between}
 use Rattle.gtfs_rows.specs.Content.{Content}
 use Rattle.gtfs_rows.specs.Reading.{number_at, stop_in, content_of}

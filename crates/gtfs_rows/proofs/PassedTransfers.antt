@@ -7,13 +7,13 @@ use Rattle.std.proofs.lemmas.Bool.{and_from, not-false as not_false, or_left}
 use Rattle.gtfs_table.specs.Rows.{is_row, records_in, rows}
 use Rattle.gtfs_table.specs.Tables.{Dataset}
 use Rattle.gtfs_table.specs.declared.file.File.TheVariants as file
-use Rattle.gtfs_columns.specs.declared.code.Code.TheVariants as code
-use Rattle.gtfs_columns.specs.Columns.{id, column_named, optional, up_to}
-use Rattle.gtfs_columns.specs.PresenceRules.{lacks_end}
-use Rattle.gtfs_columns.specs.Problems.{Passes}
-use Rattle.gtfs_columns.specs.Rows.{text_in, value_in, word_in, is_empty_in, row_with}
-use Rattle.gtfs_columns.specs.StopRules.{names_none_of}
-use Rattle.gtfs_columns.specs.Values.{if_there, is_count_between}
+use Rattle.gtfs_schema.specs.declared.code.Code.TheVariants as code
+use Rattle.gtfs_schema.specs.Columns.{id, column_named, optional, up_to}
+use Rattle.gtfs_schema.specs.PresenceRules.{lacks_end}
+use Rattle.gtfs_schema.specs.Problems.{Passes}
+use Rattle.gtfs_schema.specs.Rows.{text_in, value_in, word_in, is_empty_in, row_with}
+use Rattle.gtfs_schema.specs.StopRules.{names_none_of}
+use Rattle.gtfs_schema.specs.Values.{if_there, is_count_between}
 use Rattle.gtfs_rows.specs.Order.{transfer_key, transfer_key_cmp}
 use Rattle.gtfs_rows.specs.Reading.{number_at, transfer_in, content_of}
 use Rattle.gtfs_rows.specs.Sound.{has_id, if_given, is_stop_of, has_ends, is_sound_transfer}

@@ -15,14 +15,14 @@ use Rattle.gtfs_field.specs.TextOrder.{text_cmp}
 use Rattle.gtfs_table.specs.Rows.{is_row, records_in, rows}
 use Rattle.gtfs_table.specs.Tables.{Dataset}
 use Rattle.gtfs_table.specs.declared.file.File.TheVariants as file
-use Rattle.gtfs_columns.specs.declared.code.Code.TheVariants as code
-use Rattle.gtfs_columns.specs.Columns.{id, time, column_named, required, optional}
-use Rattle.gtfs_columns.specs.Problems.{Passes}
-use Rattle.gtfs_columns.specs.Rows.{text_in, value_in, word_in, amount_in, is_empty_in, row_with}
-use Rattle.gtfs_columns.specs.StopRules.{names_none_of}
-use Rattle.gtfs_columns.specs.TripRules.{rows_of_trip, stands_before, is_less, is_earlier_equal, is_first_row, is_last_row, is_end_untimed}
-use Rattle.gtfs_columns.specs.Values.{if_there, is_word}
-use Rattle.gtfs_columns.proofs.SiteFacts.{text_itself}
+use Rattle.gtfs_schema.specs.declared.code.Code.TheVariants as code
+use Rattle.gtfs_schema.specs.Columns.{id, time, column_named, required, optional}
+use Rattle.gtfs_schema.specs.Problems.{Passes}
+use Rattle.gtfs_schema.specs.Rows.{text_in, value_in, word_in, amount_in, is_empty_in, row_with}
+use Rattle.gtfs_schema.specs.StopRules.{names_none_of}
+use Rattle.gtfs_schema.specs.TripRules.{rows_of_trip, stands_before, is_less, is_earlier_equal, is_first_row, is_last_row, is_end_untimed}
+use Rattle.gtfs_schema.specs.Values.{if_there, is_word}
+use Rattle.gtfs_schema.proofs.SiteFacts.{text_itself}
 use Rattle.gtfs_rows.specs.Order.{by_key}
 use Rattle.gtfs_rows.specs.Reading.{text_at, number_in, number_at, stop_row_in, rows_of, trip_in, content_of}
 use Rattle.gtfs_rows.specs.Rows.{StopRow}

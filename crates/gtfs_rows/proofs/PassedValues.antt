@@ -10,14 +10,14 @@ use Rattle.gtfs_table.specs.Tables.{Dataset}
 use Rattle.gtfs_table.specs.declared.file.File.{File}
 use Rattle.gtfs_table.specs.Rows.{is_row, records_in, is_empty}
 use Rattle.gtfs_table.proofs.BlankFacts.{no_text as empty_is}
-use Rattle.gtfs_columns.specs.Calendars.{field_number as signed_in}
-use Rattle.gtfs_columns.specs.Columns.{Kind, id, Column, column_named, required, optional, defaulting}
-use Rattle.gtfs_columns.specs.Problems.{Passes}
-use Rattle.gtfs_columns.specs.ReadRules.{IsReadUnder}
-use Rattle.gtfs_columns.specs.Rows.{text_in, value_in, word_in, amount_in, choice_in, is_empty_in}
-use Rattle.gtfs_columns.specs.Values.{Value, word, amount, as_word, as_amount, has_control, readable, meaning}
-use Rattle.gtfs_columns.proofs.ReadFacts.{passes_read}
-use Rattle.gtfs_columns.proofs.ValueFacts.{word_value}
+use Rattle.gtfs_schema.specs.Calendars.{field_number as signed_in}
+use Rattle.gtfs_schema.specs.Columns.{Kind, id, Column, column_named, required, optional, defaulting}
+use Rattle.gtfs_schema.specs.Problems.{Passes}
+use Rattle.gtfs_schema.specs.ReadRules.{IsReadUnder}
+use Rattle.gtfs_schema.specs.Rows.{text_in, value_in, word_in, amount_in, choice_in, is_empty_in}
+use Rattle.gtfs_schema.specs.Values.{Value, word, amount, as_word, as_amount, has_control, readable, meaning}
+use Rattle.gtfs_schema.proofs.ReadFacts.{passes_read}
+use Rattle.gtfs_schema.proofs.ValueFacts.{word_value}
 use Rattle.gtfs_rows.specs.Cells.{is_of_kind, is_cell}
 use Rattle.gtfs_rows.specs.Reading.{text_at, number_in, number_at}
 use Rattle.gtfs_rows.specs.RowCells.{value_of_number}

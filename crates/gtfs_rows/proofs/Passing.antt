@@ -5,12 +5,12 @@ use Rattle.gtfs_table.specs.declared.file.File.{File}
 use Rattle.gtfs_table.specs.declared.file.File.TheVariants as file
 use Rattle.gtfs_table.specs.Tables.{table_of, table_records}
 use Rattle.gtfs_table.specs.Written.{is_marked}
-use Rattle.gtfs_columns.specs.declared.code.Code.{Code}
-use Rattle.gtfs_columns.specs.declared.code.Code.TheVariants as code
-use Rattle.gtfs_columns.specs.Codes.{is_error}
-use Rattle.gtfs_columns.specs.FileRules.{file_not_kept}
-use Rattle.gtfs_columns.specs.KeyRules.{key_twice}
-use Rattle.gtfs_columns.specs.Problems.{FileName, kept, other, holds_in, holds, is_code, Passes}
+use Rattle.gtfs_schema.specs.declared.code.Code.{Code}
+use Rattle.gtfs_schema.specs.declared.code.Code.TheVariants as code
+use Rattle.gtfs_schema.specs.Codes.{is_error}
+use Rattle.gtfs_schema.specs.FileRules.{file_not_kept}
+use Rattle.gtfs_schema.specs.KeyRules.{key_twice}
+use Rattle.gtfs_schema.specs.Problems.{FileName, kept, other, holds_in, holds, is_code, Passes}
 use Rattle.gtfs_rows.specs.Content.{Content}
 use Rattle.gtfs_rows.specs.RowCells.{cells_in}
 use Rattle.gtfs_rows.specs.Sound.{IsSound}

@@ -1,6 +1,6 @@
 -- The content of a dataset that passes makes a feed.
 use Rattle.gtfs_table.specs.Tables.{Dataset}
-use Rattle.gtfs_columns.specs.Problems.{Passes}
+use Rattle.gtfs_schema.specs.Problems.{Passes}
 use Rattle.gtfs_rows.specs.Reading.{content_of}
 use Rattle.gtfs_rows.specs.Sound.{IsSound}
 use Rattle.gtfs_rows.proofs.ContentRows.{content_in_order}

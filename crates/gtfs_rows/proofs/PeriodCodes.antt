@@ -10,11 +10,11 @@ use Rattle.std.proofs.lemmas.List.Elements.{Contains-get_or}
 use Rattle.gtfs_table.specs.declared.file.File.{File}
 use Rattle.gtfs_table.specs.declared.file.File.TheVariants as file
 use Rattle.gtfs_table.specs.Rows.{rows}
-use Rattle.gtfs_columns.specs.PeriodRules as rule
-use Rattle.gtfs_columns.specs.Rows.{word_in}
-use Rattle.gtfs_columns.specs.Values.{if_there, if_both, is_word}
-use Rattle.gtfs_columns.proofs.EachFacts.{none_in_range}
-use Rattle.gtfs_columns.proofs.SiteFacts.{text_is, text_itself}
+use Rattle.gtfs_schema.specs.PeriodRules as rule
+use Rattle.gtfs_schema.specs.Rows.{word_in}
+use Rattle.gtfs_schema.specs.Values.{if_there, if_both, is_word}
+use Rattle.gtfs_schema.proofs.EachFacts.{none_in_range}
+use Rattle.gtfs_schema.proofs.SiteFacts.{text_is, text_itself}
 use Rattle.gtfs_rows.specs.Content.{Content}
 use Rattle.gtfs_rows.specs.RowCells.{frequency_cells, frequencies_of}
 use Rattle.gtfs_rows.specs.Rows.{Frequency, Trip}

@@ -8,9 +8,9 @@ use Rattle.gtfs_field.proofs.TestFacts.{and_fails as unless}
 use Rattle.gtfs_table.specs.declared.file.File.{File}
 use Rattle.gtfs_table.specs.declared.file.File.TheVariants as file
 use Rattle.gtfs_table.specs.Rows.{is_empty}
-use Rattle.gtfs_columns.specs.PresenceRules.{has_many_agencies, has_wrong_parent, is_choice, lacks_agency, lacks_end, lacks_name, lacks_name_or_position, value_missing_or_forbidden}
-use Rattle.gtfs_columns.specs.Rows.{is_empty_in, is_readable_in}
-use Rattle.gtfs_columns.specs.Values.{Value, word, amount, if_there}
+use Rattle.gtfs_schema.specs.PresenceRules.{has_many_agencies, has_wrong_parent, is_choice, lacks_agency, lacks_end, lacks_name, lacks_name_or_position, value_missing_or_forbidden}
+use Rattle.gtfs_schema.specs.Rows.{is_empty_in, is_readable_in}
+use Rattle.gtfs_schema.specs.Values.{Value, word, amount, if_there}
 use Rattle.gtfs_rows.specs.Content.{Content}
 use Rattle.gtfs_rows.specs.RowCells.{agency_cells, route_cells, stop_cells, transfer_cells, id_cell, value_of_number}
 use Rattle.gtfs_rows.specs.Rows.{Agency, Route, Stop, Transfer}

@@ -10,11 +10,11 @@ use Rattle.gtfs_field.proofs.ListFacts.{any_alike}
 use Rattle.gtfs_table.specs.declared.file.File.{File}
 use Rattle.gtfs_table.specs.declared.file.File.TheVariants as file
 use Rattle.gtfs_table.specs.Rows.{is_empty}
-use Rattle.gtfs_columns.specs.Columns.{columns_of}
-use Rattle.gtfs_columns.specs.Rows.{text_in, word_in, choice_in, row_with}
-use Rattle.gtfs_columns.specs.StopRules.{names_none_of, has_parent_of_other_type, wrong_kind_of_stop}
-use Rattle.gtfs_columns.specs.Values.{if_there, is_one_of}
-use Rattle.gtfs_columns.proofs.BoolFacts.{same_test}
+use Rattle.gtfs_schema.specs.Columns.{columns_of}
+use Rattle.gtfs_schema.specs.Rows.{text_in, word_in, choice_in, row_with}
+use Rattle.gtfs_schema.specs.StopRules.{names_none_of, has_parent_of_other_type, wrong_kind_of_stop}
+use Rattle.gtfs_schema.specs.Values.{if_there, is_one_of}
+use Rattle.gtfs_schema.proofs.BoolFacts.{same_test}
 use Rattle.gtfs_rows.specs.Cells.{Cell, are_cells}
 use Rattle.gtfs_rows.specs.Content.{Content}
 use Rattle.gtfs_rows.specs.Named.{text_named}

@@ -17,10 +17,10 @@ use Rattle.gtfs_days.specs.declared.exception.Exception.TheVariants.{Added, Remo
 use Rattle.gtfs_field.specs.TextOrder.{text_cmp}
 use Rattle.gtfs_table.specs.declared.file.File.TheVariants as file
 use Rattle.gtfs_table.specs.Rows.{rows, is_empty}
-use Rattle.gtfs_columns.specs.Calendars.{service_rows, first_service_row, field_number, serves_weekday, week_in, exception_in}
-use Rattle.gtfs_columns.specs.Columns.{Column, columns_of}
-use Rattle.gtfs_columns.specs.Rows.{word_in}
-use Rattle.gtfs_columns.specs.Values.{is_word, amount, word}
+use Rattle.gtfs_schema.specs.Calendars.{service_rows, first_service_row, field_number, serves_weekday, week_in, exception_in}
+use Rattle.gtfs_schema.specs.Columns.{Column, columns_of}
+use Rattle.gtfs_schema.specs.Rows.{word_in}
+use Rattle.gtfs_schema.specs.Values.{is_word, amount, word}
 use Rattle.gtfs_rows.specs.Named.{cell_named}
 use Rattle.gtfs_rows.specs.Cells.{Cell, are_cells, is_cell}
 use Rattle.gtfs_rows.specs.Content.{Content}

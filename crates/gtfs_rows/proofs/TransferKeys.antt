@@ -8,11 +8,11 @@ use Rattle.std.specs.declared.cmp.Ordering.TheVariants.{Less, Equal}
 use Rattle.std.proofs.lemmas.Bool.{and_parts, false_from_ne_true}
 use Rattle.gtfs_table.specs.declared.file.File.TheVariants as file
 use Rattle.gtfs_table.specs.Rows.{is_empty}
-use Rattle.gtfs_columns.specs.Columns.{columns_of, column_named, optional, id}
-use Rattle.gtfs_columns.specs.KeyRules.{all_there, key_part, key_in, key_twice}
-use Rattle.gtfs_columns.specs.Rows.{value_in, is_empty_in}
-use Rattle.gtfs_columns.specs.Values.{Value, word, value_eq, if_both}
-use Rattle.gtfs_columns.proofs.SiteFacts.{text_is}
+use Rattle.gtfs_schema.specs.Columns.{columns_of, column_named, optional, id}
+use Rattle.gtfs_schema.specs.KeyRules.{all_there, key_part, key_in, key_twice}
+use Rattle.gtfs_schema.specs.Rows.{value_in, is_empty_in}
+use Rattle.gtfs_schema.specs.Values.{Value, word, value_eq, if_both}
+use Rattle.gtfs_schema.proofs.SiteFacts.{text_is}
 use Rattle.gtfs_rows.specs.Cells.{are_cells, is_cell, is_clean}
 use Rattle.gtfs_rows.specs.Content.{Content}
 use Rattle.gtfs_rows.specs.Named.{cell_named}

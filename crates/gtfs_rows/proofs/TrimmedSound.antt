@@ -19,8 +19,8 @@ use Rattle.gtfs_days.specs.declared.exception.Exception.{Exception}
 use Rattle.gtfs_days.specs.declared.week.Week.{Week}
 use Rattle.gtfs_table.specs.declared.file.File.{File}
 use Rattle.gtfs_table.specs.declared.file.File.TheVariants as file
-use Rattle.gtfs_columns.specs.Columns.{Column, columns_of}
-use Rattle.gtfs_columns.specs.Values.{amount}
+use Rattle.gtfs_schema.specs.Columns.{Column, columns_of}
+use Rattle.gtfs_schema.specs.Values.{amount}
 use Rattle.gtfs_rows.specs.Cells.{Cell, are_cells, is_between, is_cell, is_filled}
 use Rattle.gtfs_rows.specs.Content.{Content}
 use Rattle.gtfs_rows.specs.Order.{Ascends}

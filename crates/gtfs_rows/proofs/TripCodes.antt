@@ -13,13 +13,13 @@ use Rattle.gtfs_table.specs.declared.file.File.{File}
 use Rattle.gtfs_table.specs.declared.file.File.TheVariants as file
 use Prim.Native.String.{String as Literal}
 use Rattle.gtfs_field.proofs.ListFacts.{any_mapped}
-use Rattle.gtfs_columns.specs.Columns.{columns_of, column_named}
-use Rattle.gtfs_columns.specs.Rows.{word_in, amount_in, is_empty_in}
-use Rattle.gtfs_columns.specs.TripRules.{leaves_early, departure_before_arrival}
-use Rattle.gtfs_columns.specs.TripRules as rule
-use Rattle.gtfs_columns.specs.Values.{if_there, if_both, is_word}
+use Rattle.gtfs_schema.specs.Columns.{columns_of, column_named}
+use Rattle.gtfs_schema.specs.Rows.{word_in, amount_in, is_empty_in}
+use Rattle.gtfs_schema.specs.TripRules.{leaves_early, departure_before_arrival}
+use Rattle.gtfs_schema.specs.TripRules as rule
+use Rattle.gtfs_schema.specs.Values.{if_there, if_both, is_word}
 use Rattle.gtfs_rows.specs.Named.{cell_named}
-use Rattle.gtfs_columns.proofs.EachFacts.{any_follows}
+use Rattle.gtfs_schema.proofs.EachFacts.{any_follows}
 use Rattle.gtfs_rows.specs.Cells.{Cell}
 use Rattle.gtfs_rows.specs.Content.{Content}
 use Rattle.gtfs_rows.specs.RowCells.{stop_time_cells, stop_times_of, value_of_number}

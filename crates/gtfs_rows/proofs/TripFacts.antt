@@ -9,8 +9,8 @@ use Rattle.std.proofs.lemmas.List.{get_or-map, length-map}
 use Rattle.std.proofs.lemmas.List.Folds.{list_all-map}
 use Rattle.std.proofs.lemmas.Option.{get_or_from_slice_get, slice_get-get_or, slice_get_within}
 use Rattle.gtfs_field.proofs.ListFacts.{pairs-from_map, some_of}
-use Rattle.gtfs_columns.specs.PeriodRules.{share_second}
-use Rattle.gtfs_columns.specs.Values.{if_both}
+use Rattle.gtfs_schema.specs.PeriodRules.{share_second}
+use Rattle.gtfs_schema.specs.Values.{if_both}
 use Rattle.gtfs_table.proofs.PartFacts.{all_in_part, length-parts}
 use Rattle.gtfs_rows.specs.declared.frequency.Frequency.{Frequency}
 use Rattle.gtfs_rows.specs.declared.parts.Parts.{Parts}

@@ -10,8 +10,8 @@ use Rattle.std.proofs.lemmas.List.{map-id}
 use Rattle.gtfs_field.specs.TextOrder.{text_cmp}
 use Rattle.gtfs_table.specs.declared.file.File.TheVariants as file
 use Rattle.gtfs_table.specs.Rows.{rows}
-use Rattle.gtfs_columns.specs.Rows.{word_in}
-use Rattle.gtfs_columns.specs.Values.{is_word}
+use Rattle.gtfs_schema.specs.Rows.{word_in}
+use Rattle.gtfs_schema.specs.Values.{is_word}
 use Rattle.gtfs_rows.specs.Content.{Content}
 use Rattle.gtfs_rows.specs.Order.{Ascends, by_key}
 use Rattle.gtfs_rows.specs.Reading.{stop_in, stop_row_in, frequency_in, trip_in, rows_of, text_at}

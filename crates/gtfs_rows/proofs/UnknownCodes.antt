@@ -7,13 +7,13 @@ use Rattle.std.proofs.lemmas.Bool.{and_parts, and_left, and_right, or_left, case
 use Rattle.gtfs_table.specs.declared.file.File.{File}
 use Rattle.gtfs_table.specs.declared.file.File.TheVariants as file
 use Rattle.gtfs_table.specs.Rows.{is_row, records_in, is_empty}
-use Rattle.gtfs_columns.specs.Columns.{columns_of, id}
-use Rattle.gtfs_columns.specs.KeyRules.{is_known}
-use Rattle.gtfs_columns.specs.steps.ProblemOrder.{same_file}
-use Rattle.gtfs_columns.specs.References.{stop_targets, route_targets, trip_targets}
-use Rattle.gtfs_columns.specs.Rows.{file_rank, is_file, text_in, value_in}
-use Rattle.gtfs_columns.specs.Values.{Value, word}
-use Rattle.gtfs_columns.proofs.SiteFacts.{text_is}
+use Rattle.gtfs_schema.specs.Columns.{columns_of, id}
+use Rattle.gtfs_schema.specs.KeyRules.{is_known}
+use Rattle.gtfs_schema.specs.steps.ProblemOrder.{same_file}
+use Rattle.gtfs_schema.specs.References.{stop_targets, route_targets, trip_targets}
+use Rattle.gtfs_schema.specs.Rows.{file_rank, is_file, text_in, value_in}
+use Rattle.gtfs_schema.specs.Values.{Value, word}
+use Rattle.gtfs_schema.proofs.SiteFacts.{text_is}
 use Rattle.gtfs_rows.specs.Cells.{Cell, are_cells, cell_text}
 use Rattle.gtfs_rows.specs.Content.{Content}
 use Rattle.gtfs_rows.specs.Named.{cell_named, text_named}

@@ -8,10 +8,10 @@ use Rattle.std.proofs.lemmas.List.{get_or-map, length-map}
 use Rattle.gtfs_table.specs.Tables.{Dataset}
 use Rattle.gtfs_table.specs.declared.file.File.{File}
 use Rattle.gtfs_table.specs.Rows.{rows, is_row, records_in, is_empty}
-use Rattle.gtfs_columns.specs.Columns.{Column, Empty, refused, nothing, means, columns_of, column_named}
-use Rattle.gtfs_columns.specs.Rows.{text_in, value_in, word_in, amount_in, choice_in, is_empty_in, is_file, Rule, reported_at}
-use Rattle.gtfs_columns.specs.Values.{Value, word, amount, as_word, as_amount, readable, meaning}
-use Rattle.gtfs_columns.proofs.ValueFacts.{amount_back}
+use Rattle.gtfs_schema.specs.Columns.{Column, Empty, refused, nothing, means, columns_of, column_named}
+use Rattle.gtfs_schema.specs.Rows.{text_in, value_in, word_in, amount_in, choice_in, is_empty_in, is_file, Rule, reported_at}
+use Rattle.gtfs_schema.specs.Values.{Value, word, amount, as_word, as_amount, readable, meaning}
+use Rattle.gtfs_schema.proofs.ValueFacts.{amount_back}
 use Rattle.gtfs_rows.specs.Cells.{Cell, is_cell, are_cells, cell_text}
 use Rattle.gtfs_rows.specs.Content.{Content}
 use Rattle.gtfs_rows.specs.Named.{cell_named, text_named}

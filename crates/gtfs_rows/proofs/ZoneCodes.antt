@@ -6,9 +6,9 @@ use Rattle.std.proofs.lemmas.Bool.{and_parts, not_from_true}
 use Rattle.gtfs_table.specs.declared.file.File.{File}
 use Rattle.gtfs_table.specs.declared.file.File.TheVariants as file
 use Rattle.gtfs_table.specs.Rows.{is_empty}
-use Rattle.gtfs_columns.specs.PresenceRules.{first_zone, has_other_zone, zones_differ}
-use Rattle.gtfs_columns.specs.Rows.{word_in, is_readable_in}
-use Rattle.gtfs_columns.specs.Values.{if_there, if_both}
+use Rattle.gtfs_schema.specs.PresenceRules.{first_zone, has_other_zone, zones_differ}
+use Rattle.gtfs_schema.specs.Rows.{word_in, is_readable_in}
+use Rattle.gtfs_schema.specs.Values.{if_there, if_both}
 use Rattle.gtfs_rows.specs.Content.{Content}
 use Rattle.gtfs_rows.specs.RowCells.{agency_cells}
 use Rattle.gtfs_rows.specs.Rows.{Agency}

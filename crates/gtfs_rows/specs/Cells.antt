@@ -5,8 +5,8 @@ use Rattle.gtfs_field.specs.Kinds.{is_in_ranges, most_degrees}
 use Rattle.gtfs_field.specs.Canonical.{count_text, time_text, date_text, colour_text, coordinate_text}
 use Rattle.gtfs_table.specs.Blanks.{cut}
 use Rattle.gtfs_table.specs.Rows.{is_empty}
-use Rattle.gtfs_columns.specs.Columns.{Kind, id, text, count, choice, time, date, colour, coordinate, Empty, refused, nothing, means, Column}
-use Rattle.gtfs_columns.specs.Values.{Value, word, amount, has_control}
+use Rattle.gtfs_schema.specs.Columns.{Kind, id, text, count, choice, time, date, colour, coordinate, Empty, refused, nothing, means, Column}
+use Rattle.gtfs_schema.specs.Values.{Value, word, amount, has_control}
 
 -- the value of a column in a row, or none
 abbrev pub Cell : Type 0

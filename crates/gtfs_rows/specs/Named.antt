@@ -1,6 +1,6 @@
 -- The cell of a row under a column's name, and its text.
 use Rattle.std.specs.Prelude.{ℕ, bytes_eq, if◌then◌else◌, List, [], ◌∷◌, None}
-use Rattle.gtfs_columns.specs.Columns.{Column}
+use Rattle.gtfs_schema.specs.Columns.{Column}
 use Rattle.gtfs_rows.specs.Cells.{Cell, cell_text}
 
 -- the first cell whose column has the name

@@ -10,9 +10,9 @@ use Rattle.gtfs_table.specs.declared.file.File.{File}
 use Rattle.gtfs_table.specs.declared.file.File.TheVariants as file
 use Rattle.gtfs_days.specs.Service.{ServiceDates, with_exceptions}
 use Rattle.gtfs_table.specs.Rows.{rows}
-use Rattle.gtfs_columns.specs.Values.{is_word}
-use Rattle.gtfs_columns.specs.Rows.{word_in, amount_in, choice_in}
-use Rattle.gtfs_columns.specs.Calendars.{service_in}
+use Rattle.gtfs_schema.specs.Values.{is_word}
+use Rattle.gtfs_schema.specs.Rows.{word_in, amount_in, choice_in}
+use Rattle.gtfs_schema.specs.Calendars.{service_in}
 use Rattle.gtfs_rows.specs.Content.{Content}
 use Rattle.gtfs_rows.specs.Order.{by_key, transfer_key, transfer_key_cmp}
 use Rattle.gtfs_rows.specs.Rows.{Agency, Stop, Route, ServiceRow, StopRow, Frequency, Trip, Transfer}

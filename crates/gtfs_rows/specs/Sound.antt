@@ -8,9 +8,9 @@ use Rattle.gtfs_days.specs.declared.week.Week.{Week}
 use Rattle.gtfs_field.specs.TextOrder.{text_cmp}
 use Rattle.gtfs_table.specs.declared.file.File.{File}
 use Rattle.gtfs_table.specs.Rows.{is_empty}
-use Rattle.gtfs_columns.specs.Columns.{columns_of}
-use Rattle.gtfs_columns.specs.PeriodRules.{share_second}
-use Rattle.gtfs_columns.specs.Values.{if_there, if_both}
+use Rattle.gtfs_schema.specs.Columns.{columns_of}
+use Rattle.gtfs_schema.specs.PeriodRules.{share_second}
+use Rattle.gtfs_schema.specs.Values.{if_there, if_both}
 use Rattle.gtfs_rows.specs.Cells.{are_cells}
 use Rattle.gtfs_rows.specs.RowCells.{cells_in}
 use Rattle.gtfs_rows.specs.Content.{Content}

@@ -4,7 +4,7 @@ use Rattle.std.specs.Prelude.{ℕ, List, [], ◌∷◌, map}
 use Rattle.gtfs_table.specs.Tables.{Records, Table, Dataset, of_records}
 use Rattle.gtfs_table.specs.declared.file.File.{File}
 use Rattle.gtfs_table.specs.declared.file.File.TheVariants as file
-use Rattle.gtfs_columns.specs.Columns.{columns_of}
+use Rattle.gtfs_schema.specs.Columns.{columns_of}
 use Rattle.gtfs_rows.specs.Cells.{Cell, record_text}
 use Rattle.gtfs_rows.specs.Content.{Content}
 use Rattle.gtfs_rows.specs.RowCells.{cells_in}

@@ -3,7 +3,7 @@ use Rattle.std.specs.Prelude.{◌≡◌, ℕ, false, List}
 use Rattle.gtfs_table.specs.Tables.{table_of, table_records}
 use Rattle.gtfs_table.specs.Written.{is_marked}
 use Rattle.gtfs_table.specs.declared.file.File.{File}
-use Rattle.gtfs_columns.specs.Problems.{Passes}
+use Rattle.gtfs_schema.specs.Problems.{Passes}
 use Rattle.gtfs_rows.specs.Content.{Content}
 use Rattle.gtfs_rows.specs.Reading.{content_of}
 use Rattle.gtfs_rows.specs.Written.{written, written_beside}

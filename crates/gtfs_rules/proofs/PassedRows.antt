@@ -4,22 +4,22 @@ use Rattle.std.specs.Prelude.{◌&&◌, ◌||◌, not, is_some, slice_get, optio
 use Rattle.gtfs_table.specs.Tables.{Dataset}
 use Rattle.gtfs_table.specs.Rows.{is_row, records_in}
 use Rattle.gtfs_table.specs.declared.file.File.TheVariants as file
-use Rattle.gtfs_columns.specs.declared.code.Code.TheVariants as code
-use Rattle.gtfs_columns.specs.Columns.{count, defaulting, id, means, nothing, optional, refused, required, up_to}
-use Rattle.gtfs_columns.specs.IdNumbers.{number_of_id}
-use Rattle.gtfs_columns.specs.Problems.{Passes, kept}
-use Rattle.gtfs_columns.specs.ReadRules.{StandsAs}
-use Rattle.gtfs_columns.specs.Reads.{amount_of, choice_of, word_of}
-use Rattle.gtfs_columns.specs.Rows.{row_with}
-use Rattle.gtfs_columns.specs.Values.{meaning, readable}
-use Rattle.gtfs_columns.specs.steps.Ids.{FirstRows, first_row_with, first_rows, ids_of, number_with}
+use Rattle.gtfs_schema.specs.declared.code.Code.TheVariants as code
+use Rattle.gtfs_schema.specs.Columns.{count, defaulting, id, means, nothing, optional, refused, required, up_to}
+use Rattle.gtfs_schema.specs.IdNumbers.{number_of_id}
+use Rattle.gtfs_schema.specs.Problems.{Passes, kept}
+use Rattle.gtfs_schema.specs.ReadRules.{StandsAs}
+use Rattle.gtfs_schema.specs.Reads.{amount_of, choice_of, word_of}
+use Rattle.gtfs_schema.specs.Rows.{row_with}
+use Rattle.gtfs_schema.specs.Values.{meaning, readable}
+use Rattle.gtfs_schema.specs.steps.Ids.{FirstRows, first_row_with, first_rows, ids_of, number_with}
 use Rattle.gtfs_stop_times.specs.declared.stop_time.StopTime.{StopTime}
 use Rattle.gtfs_trip_rules.specs.Kept.{Keeps}
 use Rattle.gtfs_trip_rules.specs.StopTimes.{stop_time_text}
 use Rattle.gtfs_rules.specs.StopTimes.{SaysStopTime}
-use Rattle.gtfs_columns.proofs.IdFacts.{first_row_is}
-use Rattle.gtfs_columns.proofs.IdNumberFacts.{id_of_number, number_there}
-use Rattle.gtfs_columns.proofs.ReadFacts.{amount_some, id_there, read_as_there, read_stands, stands}
+use Rattle.gtfs_schema.proofs.IdFacts.{first_row_is}
+use Rattle.gtfs_schema.proofs.IdNumberFacts.{id_of_number, number_there}
+use Rattle.gtfs_schema.proofs.ReadFacts.{amount_some, id_there, read_as_there, read_stands, stands}
 
 -- ---- numbers of ids
 

@@ -18,20 +18,20 @@ use Rattle.gtfs_table.specs.Tables.{Dataset, Records}
 use Rattle.gtfs_table.specs.Rows.{is_row, records_in, rows}
 use Rattle.gtfs_table.specs.declared.file.File.TheVariants as file
 use Rattle.gtfs_table.proofs.RowFacts.{row_among}
-use Rattle.gtfs_columns.specs.declared.code.Code.TheVariants as code
-use Rattle.gtfs_columns.specs.IdNumbers.{id_numbered}
-use Rattle.gtfs_columns.specs.KeyRules.{all_there, same_key}
-use Rattle.gtfs_columns.specs.Problems.{Passes, kept}
-use Rattle.gtfs_columns.specs.Rows.{amount_in, text_in, value_in, word_in}
-use Rattle.gtfs_columns.specs.Values.{Value, amount, if_both, value_eq, word}
+use Rattle.gtfs_schema.specs.declared.code.Code.TheVariants as code
+use Rattle.gtfs_schema.specs.IdNumbers.{id_numbered}
+use Rattle.gtfs_schema.specs.KeyRules.{all_there, same_key}
+use Rattle.gtfs_schema.specs.Problems.{Passes, kept}
+use Rattle.gtfs_schema.specs.Rows.{amount_in, text_in, value_in, word_in}
+use Rattle.gtfs_schema.specs.Values.{Value, amount, if_both, value_eq, word}
 use Rattle.gtfs_stop_times.specs.declared.stop_time.StopTime.{StopTime}
 use Rattle.gtfs_trip_rules.specs.KeptOrder.{AreKeptOf}
 use Rattle.gtfs_stop_times.specs.StopTimeOrder.{kept_cmp}
 use Rattle.gtfs_trip_rules.specs.TripStopTimes.{TripStopTime, has_trip_stop_time, trip_stop_time, trip_stop_time_in, trip_stop_times_in}
 use Rattle.gtfs_rules.specs.StopTimes.{AreStopTimes, SaysStopTime, stop_time_cmp}
-use Rattle.gtfs_columns.proofs.EachFacts.{any_follows}
-use Rattle.gtfs_columns.proofs.SiteFacts.{text_itself}
-use Rattle.gtfs_columns.proofs.ValueFacts.{amount_value, word_value}
+use Rattle.gtfs_schema.proofs.EachFacts.{any_follows}
+use Rattle.gtfs_schema.proofs.SiteFacts.{text_itself}
+use Rattle.gtfs_schema.proofs.ValueFacts.{amount_value, word_value}
 use Rattle.gtfs_rules.proofs.PassedRows.{says, sequence_there, trip_is}
 
 -- ---- each row comes once

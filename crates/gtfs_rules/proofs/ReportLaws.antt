@@ -11,11 +11,11 @@ use Rattle.std.specs.declared.cmp.Ordering.{Ordering}
 use Rattle.std.specs.declared.cmp.Ordering.TheVariants.{Less}
 use Rattle.std.proofs.lemmas.Bool.{cases_Bool}
 use Rattle.gtfs_table.specs.Tables.{Dataset}
-use Rattle.gtfs_columns.specs.declared.problem.Problem.{Problem as LentProblem}
-use Rattle.gtfs_columns.specs.Codes.{is_error}
-use Rattle.gtfs_columns.specs.steps.ProblemOrder.{problem_total, problem_anti}
-use Rattle.gtfs_columns.specs.Problems.{Problem, problem_cmp, is_problem, IsReport, Passes, passes}
-use Rattle.gtfs_columns.specs.View.{problem_of}
+use Rattle.gtfs_schema.specs.declared.problem.Problem.{Problem as LentProblem}
+use Rattle.gtfs_schema.specs.Codes.{is_error}
+use Rattle.gtfs_schema.specs.steps.ProblemOrder.{problem_total, problem_anti}
+use Rattle.gtfs_schema.specs.Problems.{Problem, problem_cmp, is_problem, IsReport, Passes, passes}
+use Rattle.gtfs_schema.specs.View.{problem_of}
 
 -- ---- strictly sorted lists with the same members are one list
 

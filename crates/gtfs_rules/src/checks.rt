@@ -1,15 +1,15 @@
 ghost use Rattle.std.specs.Prelude.{◌≡◌, IfOk, OnOk};
-ghost use Rattle.gtfs_columns.specs.steps.FeedIds.{AreIdsOf};
-ghost use Rattle.gtfs_columns.specs.steps.Found.{Reports};
+ghost use Rattle.gtfs_schema.specs.steps.FeedIds.{AreIdsOf};
+ghost use Rattle.gtfs_schema.specs.steps.Found.{Reports};
 ghost use Rattle.gtfs_rules.specs.steps.Parts.{every, in_files, in_periods_and_services, in_trips};
-ghost use Rattle.gtfs_columns.specs.Problems.{IsReport};
-ghost use Rattle.gtfs_columns.specs.steps.StopTypes.{AreStopTypes};
+ghost use Rattle.gtfs_schema.specs.Problems.{IsReport};
+ghost use Rattle.gtfs_schema.specs.steps.StopTypes.{AreStopTypes};
 ghost use Rattle.gtfs_trip_rules.specs.KeptOrder.{AreKeptOf};
 
 use crate::report::Report;
-use gtfs_columns::{FeedIds, Found, stop_types};
 use gtfs_field::OutOfMemory;
 use gtfs_row_rules::{report_files, report_headers, report_rows};
+use gtfs_schema::{FeedIds, Found, stop_types};
 use gtfs_stop_times::KeptStopTimes;
 use gtfs_table::Tables;
 use gtfs_trip_rules::{

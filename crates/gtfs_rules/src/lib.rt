@@ -30,7 +30,7 @@ mod passed;
 mod report;
 
 pub use checks::check;
-pub use gtfs_columns::{Code, FileName, Problem};
+pub use gtfs_schema::{Code, FileName, Problem};
 pub use gtfs_stop_times::{KeptStopTimes, StopTime};
 pub use passed::Passed;
 pub use report::Report;

@@ -1,9 +1,9 @@
 ghost use Rattle.std.specs.Prelude.{◌≡◌};
-ghost use Rattle.gtfs_columns.specs.Problems.{Passes};
-ghost use Rattle.gtfs_columns.specs.steps.FeedIds.{AreIdsOf};
+ghost use Rattle.gtfs_schema.specs.Problems.{Passes};
+ghost use Rattle.gtfs_schema.specs.steps.FeedIds.{AreIdsOf};
 ghost use Rattle.gtfs_rules.specs.StopTimes.{AreStopTimes};
 
-use gtfs_columns::FeedIds;
+use gtfs_schema::FeedIds;
 use gtfs_stop_times::KeptStopTimes;
 use gtfs_table::Tables;
 use std::marker::Model;

@@ -1,14 +1,14 @@
 ghost use Rattle.std.specs.Prelude.{◌≡◌, map, IfOk, IfErr};
 ghost use Rattle.std.specs.List.{list_any};
-ghost use Rattle.gtfs_columns.specs.Codes.{is_error};
-ghost use Rattle.gtfs_columns.specs.steps.FeedIds.{AreIdsOf};
-ghost use Rattle.gtfs_columns.specs.steps.Found.{ListsAll};
-ghost use Rattle.gtfs_columns.specs.Problems.{IsOnlyReport, IsReport, Passes};
-ghost use Rattle.gtfs_columns.specs.View.{problem_of};
+ghost use Rattle.gtfs_schema.specs.Codes.{is_error};
+ghost use Rattle.gtfs_schema.specs.steps.FeedIds.{AreIdsOf};
+ghost use Rattle.gtfs_schema.specs.steps.Found.{ListsAll};
+ghost use Rattle.gtfs_schema.specs.Problems.{IsOnlyReport, IsReport, Passes};
+ghost use Rattle.gtfs_schema.specs.View.{problem_of};
 ghost use Rattle.gtfs_trip_rules.specs.KeptOrder.{AreKeptOf};
 
 use crate::passed::Passed;
-use gtfs_columns::{FeedIds, Found, Problem};
+use gtfs_schema::{FeedIds, Found, Problem};
 use gtfs_stop_times::KeptStopTimes;
 use gtfs_table::Tables;
 use std::marker::Model;
@@ -25,8 +25,8 @@ pub struct Report<'a> {
 
 impl<'a> Model for Report<'a> {
     ghost use Rattle.std.specs.Prelude.{map};
-    ghost use Rattle.gtfs_columns.specs.steps.Found.{Checked};
-    ghost use Rattle.gtfs_columns.specs.View.{problem_of};
+    ghost use Rattle.gtfs_schema.specs.steps.Found.{Checked};
+    ghost use Rattle.gtfs_schema.specs.View.{problem_of};
     ghost use Rattle.gtfs_rules.specs.steps.Checked.{IsChecked};
 
     ghost Value = { Checked };

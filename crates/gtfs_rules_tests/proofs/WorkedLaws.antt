@@ -13,8 +13,8 @@ use Rattle.std.proofs.lemmas.Map.Views.{any-filter_same}
 use Rattle.gtfs_field.proofs.OrderingFacts.{less_so}
 use Rattle.gtfs_field.proofs.TestFacts.{first_so, second_so}
 use Rattle.gtfs_table.specs.Tables.{Dataset}
-use Rattle.gtfs_columns.specs.steps.ProblemOrder.{problem_total, problem_anti}
-use Rattle.gtfs_columns.specs.Problems.{Problem, problem_cmp, lists_problem, is_problem, IsReport}
+use Rattle.gtfs_schema.specs.steps.ProblemOrder.{problem_total, problem_anti}
+use Rattle.gtfs_schema.specs.Problems.{Problem, problem_cmp, lists_problem, is_problem, IsReport}
 use Rattle.gtfs_rules.specs.Report.{report_text}
 use Rattle.gtfs_rules.proofs.ReportLaws.{one_report}
 use Rattle.gtfs_rules_tests.proofs.WorkedFeeds.{tried, entered, problems_in, reported}

@@ -15,30 +15,30 @@ use Rattle.gtfs_table.specs.Rows.{has_no_record, is_empty, is_row, records_in}
 use Rattle.gtfs_table.specs.Tables.{Dataset, Records}
 use Rattle.gtfs_table.specs.declared.file.File.{File}
 use Rattle.gtfs_table.specs.declared.file.File.TheVariants as file
-use Rattle.gtfs_columns.specs.Codes.{all_codes}
-use Rattle.gtfs_columns.specs.Columns.{Column, column_named, columns_of}
-use Rattle.gtfs_columns.specs.ColumnRules.{is_required}
-use Rattle.gtfs_columns.specs.FieldRules.{in_row, is_form_fault, is_id, is_range_fault, is_text}
-use Rattle.gtfs_columns.specs.FileRules.{file_not_kept, is_at, is_needed, is_read}
-use Rattle.gtfs_columns.specs.PeriodRules.{ends_at_start, overlaps_earlier}
-use Rattle.gtfs_columns.specs.PresenceRules.{has_other_zone}
-use Rattle.gtfs_columns.specs.Problems.{FileName, kept, other, Problem, holds, holds_in, is_code, lists_problem, is_problem, problem_cmp}
-use Rattle.gtfs_columns.specs.References.{reported_column}
-use Rattle.gtfs_columns.specs.Rows.{file_rank, header, is_file, is_kept_column, is_named, text_in, times_named, value_in}
-use Rattle.gtfs_columns.specs.ServiceRules.{ends_before_start, is_never_active}
-use Rattle.gtfs_columns.specs.TripRules.{goes_back, has_few_rows, is_end_untimed, lacks_time, leaves_early}
-use Rattle.gtfs_columns.specs.Values.{Value, has_control, if_there, read_as, readable}
-use Rattle.gtfs_columns.specs.declared.code.Code.{Code}
-use Rattle.gtfs_columns.specs.declared.code.Code.TheVariants as code
-use Rattle.gtfs_columns.proofs.BoolFacts.{and_parts, or_left, or_right}
-use Rattle.gtfs_columns.proofs.EachFacts.{any_follows, any_in_range}
-use Rattle.gtfs_columns.proofs.FieldRowFacts.{empty_is}
-use Rattle.gtfs_columns.proofs.NamedFacts.{has_name, kept_any}
-use Rattle.gtfs_columns.proofs.SiteFacts.{code_is, same_itself, text_is}
-use Rattle.gtfs_columns.proofs.StepFacts.{Reported, condition_of}
-use Rattle.gtfs_columns.proofs.StopTypeFacts.{kind_rules}
+use Rattle.gtfs_schema.specs.Codes.{all_codes}
+use Rattle.gtfs_schema.specs.Columns.{Column, column_named, columns_of}
+use Rattle.gtfs_schema.specs.ColumnRules.{is_required}
+use Rattle.gtfs_schema.specs.FieldRules.{in_row, is_form_fault, is_id, is_range_fault, is_text}
+use Rattle.gtfs_schema.specs.FileRules.{file_not_kept, is_at, is_needed, is_read}
+use Rattle.gtfs_schema.specs.PeriodRules.{ends_at_start, overlaps_earlier}
+use Rattle.gtfs_schema.specs.PresenceRules.{has_other_zone}
+use Rattle.gtfs_schema.specs.Problems.{FileName, kept, other, Problem, holds, holds_in, is_code, lists_problem, is_problem, problem_cmp}
+use Rattle.gtfs_schema.specs.References.{reported_column}
+use Rattle.gtfs_schema.specs.Rows.{file_rank, header, is_file, is_kept_column, is_named, text_in, times_named, value_in}
+use Rattle.gtfs_schema.specs.ServiceRules.{ends_before_start, is_never_active}
+use Rattle.gtfs_schema.specs.TripRules.{goes_back, has_few_rows, is_end_untimed, lacks_time, leaves_early}
+use Rattle.gtfs_schema.specs.Values.{Value, has_control, if_there, read_as, readable}
+use Rattle.gtfs_schema.specs.declared.code.Code.{Code}
+use Rattle.gtfs_schema.specs.declared.code.Code.TheVariants as code
+use Rattle.gtfs_schema.proofs.BoolFacts.{and_parts, or_left, or_right}
+use Rattle.gtfs_schema.proofs.EachFacts.{any_follows, any_in_range}
+use Rattle.gtfs_schema.proofs.FieldRowFacts.{empty_is}
+use Rattle.gtfs_schema.proofs.NamedFacts.{has_name, kept_any}
+use Rattle.gtfs_schema.proofs.SiteFacts.{code_is, same_itself, text_is}
+use Rattle.gtfs_schema.proofs.StepFacts.{Reported, condition_of}
+use Rattle.gtfs_schema.proofs.StopTypeFacts.{kind_rules}
 use Rattle.gtfs_row_rules.proofs.PresenceFacts.{presence_rules}
-use Rattle.gtfs_columns.specs.steps.ProblemOrder.{same_file}
+use Rattle.gtfs_schema.specs.steps.ProblemOrder.{same_file}
 use Rattle.gtfs_rules_tests.proofs.WorkedFeeds.{names_tried, problems_of_others, problems_tried, rows_tried, tried}
 
 -- ---- members of lists of lists

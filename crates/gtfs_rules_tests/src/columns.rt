@@ -3,13 +3,13 @@
 
 use crate::assertions::{assert_case, assert_is};
 use crate::feed::{FREQUENCIES, FileLines, put_files, small_feed};
-use gtfs_columns::{
+use gtfs_field::{Axis, Clock, Colour, Coord, Day, FieldFault};
+use gtfs_rules::{Passed, check};
+use gtfs_schema::{
     Code, Column, Empty, FeedIds, FileName, Finder, Found, Ids, Kind, Problem, cell_code,
     fault_code, has_control, is_one_of, is_required, length_code, push_plain, read_choice,
     stop_types, type_of, values,
 };
-use gtfs_field::{Axis, Clock, Colour, Coord, Day, FieldFault};
-use gtfs_rules::{Passed, check};
 use gtfs_table::{File, Tables};
 use std::alloc::Global;
 use std::process::Abort;

@@ -1,9 +1,9 @@
 //! The tests of the validator (`gtfs_rules` and the crates below it down to
-//! `gtfs_columns`), in a crate of their own: a crate with tests is proved twice, with them
+//! `gtfs_schema`), in a crate of their own: a crate with tests is proved twice, with them
 //! and without. They call public functions alone.
 //!
 //! - `feed` is a small feed without a problem.
-//! - `columns` has the public calls of `gtfs_columns` on their happy paths.
+//! - `columns` has the public calls of `gtfs_schema` on their happy paths.
 //! - `stop_times` has the stop times that a feed which passes hands on.
 //! - `texts` compares texts of all short lengths.
 //! - `many` is a feed with hundreds of thousands of problems.

@@ -2,7 +2,7 @@
 //! byte, and beside shorter ones.
 
 use crate::assertions::assert_case;
-use gtfs_columns::are_equal;
+use gtfs_schema::are_equal;
 
 const TEXT: [u8; 20] = *b"ABCDEFGHIJKLMNOPQRST";
 

@@ -8,7 +8,7 @@ use Rattle.std.proofs.lemmas.Int.{ints}
 use Rattle.std.proofs.lemmas.Bool.Decides.{nat_tests}
 use Rattle.std.proofs.lemmas.List.Folds.{list_all-append, list_all-map}
 use Rattle.gtfs_table.specs.declared.file.File.TheVariants as file
-use Rattle.gtfs_columns.specs.Columns.{columns_of, optional, time}
+use Rattle.gtfs_schema.specs.Columns.{columns_of, optional, time}
 use Rattle.gtfs_rows.specs.Cells.{are_cells, is_between, is_cell}
 use Rattle.gtfs_rows.specs.RowCells.{frequency_cells, held_by, value_of_number, stop_time_cells}
 use Rattle.gtfs_rows.specs.Rows as content

@@ -11,8 +11,8 @@ use Rattle.std.proofs.lemmas.Option.{get_or_from_slice_get, same_Some as one, sl
 use Rattle.gtfs_field.proofs.NumberFacts.{number_itself as itself}
 use Rattle.gtfs_field.proofs.ListFacts.{fold-rises, some_of}
 use Rattle.gtfs_table.proofs.PartFacts.{length-parts}
-use Rattle.gtfs_columns.proofs.SiteFacts.{text_itself}
-use Rattle.gtfs_columns.specs.Values.{if_there}
+use Rattle.gtfs_schema.proofs.SiteFacts.{text_itself}
+use Rattle.gtfs_schema.specs.Values.{if_there}
 use Rattle.gtfs_rows.specs.Content.{Content}
 use Rattle.gtfs_rows.specs.Rows as content
 use Rattle.gtfs_rows.specs.declared.frequency.Frequency.{Frequency}

@@ -14,8 +14,8 @@ use Rattle.std.proofs.Math.Bool.{and_assoc as and_group, or-false as or_none}
 use Rattle.gtfs_field.proofs.NumberFacts.{neither_less, number_itself as equal_itself}
 use Rattle.gtfs_field.proofs.ListFacts.{any_mapped as any-map}
 use Rattle.gtfs_field.specs.TextOrder.{text_cmp}
-use Rattle.gtfs_columns.specs.Values.{if_there}
-use Rattle.gtfs_columns.proofs.SiteFacts.{text_itself}
+use Rattle.gtfs_schema.specs.Values.{if_there}
+use Rattle.gtfs_schema.proofs.SiteFacts.{text_itself}
 use Rattle.gtfs_stop_times.specs.declared.numbers.StopNo.{StopNo}
 use Rattle.gtfs_rows.specs.declared.parts.Parts.{Parts}
 use Rattle.gtfs_rows.specs.declared.stop.Stop.{Stop}

@@ -4,7 +4,7 @@ use Rattle.std.specs.List.{All, slice_get}
 use Rattle.std.proofs.lemmas.Bool.{ltb-true}
 use Rattle.std.proofs.lemmas.List.Elements.{All-head, All-tail}
 use Rattle.std.proofs.lemmas.Option.{get_or_from_slice_get, slice_get-get_or}
-use Rattle.gtfs_columns.specs.Values.{if_there}
+use Rattle.gtfs_schema.specs.Values.{if_there}
 use Rattle.std.specs.Prelude.{unwrap_or}
 use Rattle.gtfs_rows.specs.Trips.{left_at, stop_rows_by_trip}
 use Rattle.gtfs_rows.specs.Views.{IsSoundParts}

@@ -5,7 +5,7 @@ use Rattle.std.specs.List.{All, list_any, slice_get}
 use Rattle.std.proofs.lemmas.Bool.{cases_Bool, eqb-true, or_parts}
 use Rattle.std.proofs.lemmas.List.Elements.{All-push}
 use Rattle.std.proofs.lemmas.Option.{slice_get-get_or}
-use Rattle.gtfs_columns.specs.Values.{if_there}
+use Rattle.gtfs_schema.specs.Values.{if_there}
 use Rattle.gtfs_field.proofs.ListFacts.{some_of}
 use Rattle.gtfs_table.proofs.PartFacts.{length-parts}
 use Rattle.gtfs_rows.specs.Places.{members}

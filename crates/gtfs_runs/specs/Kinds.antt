@@ -3,7 +3,7 @@
 -- GTFS Schedule Reference, stop_times.txt, frequencies.txt and trips.txt.
 use Rattle.std.specs.Prelude.{◌≡◌, ◌+◌, ◌++◌, ℕ, All, AllPairs, Bool, true, false, not, cond, List, length, slice_get, Option, Some, option_map}
 use Rattle.std.specs.List.{list_any}
-use Rattle.gtfs_columns.specs.Values.{if_there}
+use Rattle.gtfs_schema.specs.Values.{if_there}
 use Rattle.gtfs_rows.specs.Content.{Content}
 use Rattle.gtfs_rows.specs.Rows.{Frequency, Trip}
 use Rattle.gtfs_rows.specs.Runs.{is_timed}

@@ -12,7 +12,7 @@ use Rattle.csv.specs.Records.{Rising}
 use Rattle.gtfs_table.proofs.PartFacts.{all_in_part}
 use Rattle.gtfs_table.specs.declared.file.File.{File}
 use Rattle.gtfs_table.specs.declared.file.File.TheVariants as file
-use Rattle.gtfs_columns.specs.Columns.{columns_of, optional, time}
+use Rattle.gtfs_schema.specs.Columns.{columns_of, optional, time}
 use Rattle.gtfs_rows.proofs.RowTexts.{all_at}
 use Rattle.gtfs_rows.specs.Cells.{are_cells, is_between, is_cell}
 use Rattle.gtfs_rows.specs.Content.{Content}

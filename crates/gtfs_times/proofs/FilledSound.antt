@@ -8,8 +8,8 @@ use Rattle.std.proofs.lemmas.Int.{ints}
 use Rattle.std.proofs.lemmas.List.{get_or-map, length-map}
 use Rattle.gtfs_field.proofs.OrderingFacts.{nat-less}
 use Rattle.gtfs_table.specs.declared.file.File.TheVariants as file
-use Rattle.gtfs_columns.specs.Columns.{columns_of}
-use Rattle.gtfs_columns.specs.Values.{if_both}
+use Rattle.gtfs_schema.specs.Columns.{columns_of}
+use Rattle.gtfs_schema.specs.Values.{if_both}
 use Rattle.std.proofs.lemmas.List.FromFn.{length-enumerate_from}
 use Rattle.gtfs_rows.proofs.RowTexts.{all_at}
 use Rattle.gtfs_rows.specs.Cells.{are_cells, is_between}

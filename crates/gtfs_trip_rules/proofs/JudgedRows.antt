@@ -9,11 +9,11 @@ use Rattle.std.proofs.lemmas.List.{map-append, reverse-append, take_all}
 use Rattle.std.proofs.lemmas.List.Elements.{All-drop, All-take}
 use Rattle.std.proofs.lemmas.List.Sorted.{All-permutation, IsPermutation-reverse}
 use Rattle.gtfs_table.specs.Tables.{Dataset}
-use Rattle.gtfs_columns.specs.Problems.{Problem}
-use Rattle.gtfs_columns.specs.steps.Found.{Reports}
+use Rattle.gtfs_schema.specs.Problems.{Problem}
+use Rattle.gtfs_schema.specs.steps.Found.{Reports}
 use Rattle.gtfs_field.proofs.NumberFacts.{number_itself}
-use Rattle.gtfs_columns.proofs.BoolFacts.{and_parts, same_test}
-use Rattle.gtfs_columns.proofs.SiteFacts.{text_is, text_itself}
+use Rattle.gtfs_schema.proofs.BoolFacts.{and_parts, same_test}
+use Rattle.gtfs_schema.proofs.SiteFacts.{text_is, text_itself}
 use Rattle.gtfs_stop_times.specs.KeptTimes.{departs, is_untimed}
 use Rattle.gtfs_trip_rules.specs.StopTimePicks.{breaks_order}
 use Rattle.gtfs_trip_rules.specs.TripJudged.{each_after, ends_trip, goes_on, is_end_untimed, is_late, last_of, left_of, repeats_last, AddsOfRow}

@@ -5,11 +5,11 @@ use Rattle.std.specs.Option.{option_or, unwrap_or}
 use Rattle.gtfs_table.specs.Tables.{Dataset}
 use Rattle.gtfs_table.specs.Rows.{is_empty}
 use Rattle.gtfs_table.specs.declared.file.File.TheVariants as file
-use Rattle.gtfs_columns.specs.Columns.{count, id, up_to}
-use Rattle.gtfs_columns.specs.IdNumbers.{number_of_id}
-use Rattle.gtfs_columns.specs.ReadRules.{IsReadAs}
-use Rattle.gtfs_columns.specs.Reads.{amount_of, choice_of, word_of}
-use Rattle.gtfs_columns.specs.Values.{Value, amount, as_amount, as_word}
+use Rattle.gtfs_schema.specs.Columns.{count, id, up_to}
+use Rattle.gtfs_schema.specs.IdNumbers.{number_of_id}
+use Rattle.gtfs_schema.specs.ReadRules.{IsReadAs}
+use Rattle.gtfs_schema.specs.Reads.{amount_of, choice_of, word_of}
+use Rattle.gtfs_schema.specs.Values.{Value, amount, as_amount, as_word}
 use Rattle.gtfs_trip_rules.specs.declared.stop_times.columns.ReadStopTime.{ReadStopTime}
 use Rattle.gtfs_trip_rules.specs.declared.stop_times.named.NamedIds.{NamedIds}
 use Rattle.gtfs_trip_rules.specs.declared.stop_times.reading.Reading.{Reading}

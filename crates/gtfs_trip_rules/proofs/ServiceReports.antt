@@ -6,16 +6,16 @@ use Rattle.std.proofs.lemmas.Bool.{and_from as and_both, or_cases}
 use Rattle.gtfs_table.specs.Tables.{Dataset}
 use Rattle.gtfs_table.specs.declared.file.File.{File}
 use Rattle.gtfs_table.specs.declared.file.File.TheVariants as file
-use Rattle.gtfs_columns.specs.declared.code.Code.TheVariants as code
-use Rattle.gtfs_columns.specs.steps.Found.{Reports}
-use Rattle.gtfs_columns.specs.steps.Picks.{at_column, is_kept, of_codes}
-use Rattle.gtfs_columns.specs.Problems.{FileName, kept, other, Problem, holds, is_code, is_problem}
-use Rattle.gtfs_columns.specs.Rows.{file_rank, is_file, reported_at, Rule}
+use Rattle.gtfs_schema.specs.declared.code.Code.TheVariants as code
+use Rattle.gtfs_schema.specs.steps.Found.{Reports}
+use Rattle.gtfs_schema.specs.steps.Picks.{at_column, is_kept, of_codes}
+use Rattle.gtfs_schema.specs.Problems.{FileName, kept, other, Problem, holds, is_code, is_problem}
+use Rattle.gtfs_schema.specs.Rows.{file_rank, is_file, reported_at, Rule}
 use Rattle.gtfs_table.specs.Rows.{is_row, records_in}
-use Rattle.gtfs_columns.specs.ServiceRules.{is_never_active}
-use Rattle.gtfs_columns.proofs.BoolFacts.{and_parts, or_left, or_right, same_test}
-use Rattle.gtfs_columns.proofs.SiteFacts.{code_is}
-use Rattle.gtfs_columns.proofs.ReportingFacts.{reports_alike, reports_then}
+use Rattle.gtfs_schema.specs.ServiceRules.{is_never_active}
+use Rattle.gtfs_schema.proofs.BoolFacts.{and_parts, or_left, or_right, same_test}
+use Rattle.gtfs_schema.proofs.SiteFacts.{code_is}
+use Rattle.gtfs_schema.proofs.ReportingFacts.{reports_alike, reports_then}
 
 flipped : (a b : ℕ) → (a == b) ≡ true → (b == a) ≡ true
 flipped a b h = grind (arith, nat_tests, h)

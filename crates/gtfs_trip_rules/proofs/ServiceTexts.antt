@@ -12,16 +12,16 @@ use Rattle.gtfs_field.specs.declared.fault.FieldFault.{FieldFault}
 use Rattle.gtfs_field.specs.Kinds.{count_of, date_of, shaped}
 use Rattle.gtfs_table.specs.Tables.{Dataset}
 use Rattle.gtfs_table.specs.declared.file.File.TheVariants as file
-use Rattle.gtfs_columns.specs.Calendars.{exception_in, week_in}
-use Rattle.gtfs_columns.specs.Columns.{id, choice, date, columns_of}
-use Rattle.gtfs_columns.specs.Reads.{is_id}
-use Rattle.gtfs_columns.specs.Rows.{value_in}
+use Rattle.gtfs_schema.specs.Calendars.{exception_in, week_in}
+use Rattle.gtfs_schema.specs.Columns.{id, choice, date, columns_of}
+use Rattle.gtfs_schema.specs.Reads.{is_id}
+use Rattle.gtfs_schema.specs.Rows.{value_in}
 use Rattle.gtfs_trip_rules.specs.ServiceRows.{date_text, exception_in_texts, week_in_texts, week_text}
 use Rattle.gtfs_trip_rules.specs.ServiceView.{exception_type_of}
-use Rattle.gtfs_columns.specs.Values.{word, amount, as_amount, as_word, value_of_count, has_control, measured, one_of, readable}
+use Rattle.gtfs_schema.specs.Values.{word, amount, as_amount, as_word, value_of_count, has_control, measured, one_of, readable}
 use Rattle.gtfs_table.specs.Rows.{is_empty}
-use Rattle.gtfs_columns.proofs.BoolFacts.{and_parts}
-use Rattle.gtfs_columns.proofs.ValueFacts.{amount_back, counted_amount}
+use Rattle.gtfs_schema.proofs.BoolFacts.{and_parts}
+use Rattle.gtfs_schema.proofs.ValueFacts.{amount_back, counted_amount}
 
 -- ---- ids
 

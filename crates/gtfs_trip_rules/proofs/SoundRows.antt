@@ -9,10 +9,10 @@ use Rattle.std.proofs.Math.Bool.{and-false as and_false, and-true as and_true}
 use Rattle.gtfs_field.proofs.NumberFacts.{one_way as not_above}
 use Rattle.gtfs_days.specs.declared.exception.Exception.{Exception}
 use Rattle.gtfs_days.specs.declared.week.Week.{Week}
-use Rattle.gtfs_columns.specs.KeyRules.{all_there}
+use Rattle.gtfs_schema.specs.KeyRules.{all_there}
 use Rattle.gtfs_trip_rules.specs.ServiceView.{each_day_once, first_of, if_ordered, week_of_rows}
-use Rattle.gtfs_columns.specs.Values.{if_both}
-use Rattle.gtfs_columns.proofs.BoolFacts.{and_parts}
+use Rattle.gtfs_schema.specs.Values.{if_both}
+use Rattle.gtfs_schema.proofs.BoolFacts.{and_parts}
 
 -- ---- tests
 

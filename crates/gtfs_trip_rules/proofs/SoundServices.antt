@@ -15,19 +15,19 @@ use Rattle.gtfs_table.specs.declared.file.File.{File}
 use Rattle.gtfs_table.specs.declared.file.File.TheVariants as file
 use Rattle.gtfs_trip_rules.specs.declared.services.source.Source.{Source}
 use Rattle.gtfs_trip_rules.specs.declared.services.source.Source.TheVariants as source
-use Rattle.gtfs_columns.specs.Calendars.{exception_in, first_service_row, service_rows, week_in}
-use Rattle.gtfs_columns.specs.Columns.{id}
-use Rattle.gtfs_columns.specs.KeyRules.{all_there, same_key}
-use Rattle.gtfs_columns.specs.Reads.{is_id}
-use Rattle.gtfs_columns.specs.Rows.{amount_in, value_in, word_in}
+use Rattle.gtfs_schema.specs.Calendars.{exception_in, first_service_row, service_rows, week_in}
+use Rattle.gtfs_schema.specs.Columns.{id}
+use Rattle.gtfs_schema.specs.KeyRules.{all_there, same_key}
+use Rattle.gtfs_schema.specs.Reads.{is_id}
+use Rattle.gtfs_schema.specs.Rows.{amount_in, value_in, word_in}
 use Rattle.gtfs_table.specs.Rows.{is_row, records_in, rows}
 use Rattle.gtfs_trip_rules.specs.ServiceRows.{date_text, exception_in_texts, id_in, week_in_texts, week_text}
-use Rattle.gtfs_columns.specs.ServiceRules.{ends_before_start, has_sound_rows, is_sound_row}
+use Rattle.gtfs_schema.specs.ServiceRules.{ends_before_start, has_sound_rows, is_sound_row}
 use Rattle.gtfs_trip_rules.specs.ServiceView.{each_day_once, exceptions_of_rows, file_of, week_of_rows}
-use Rattle.gtfs_columns.specs.Values.{Value, word, amount, as_word, if_both, if_there, is_word, readable, value_eq}
-use Rattle.gtfs_columns.proofs.BoolFacts.{and_parts}
-use Rattle.gtfs_columns.proofs.SiteFacts.{text_is}
-use Rattle.gtfs_columns.proofs.NamedFacts.{text_turned as same_text}
+use Rattle.gtfs_schema.specs.Values.{Value, word, amount, as_word, if_both, if_there, is_word, readable, value_eq}
+use Rattle.gtfs_schema.proofs.BoolFacts.{and_parts}
+use Rattle.gtfs_schema.proofs.SiteFacts.{text_is}
+use Rattle.gtfs_schema.proofs.NamedFacts.{text_turned as same_text}
 use Rattle.gtfs_trip_rules.proofs.ServiceTexts.{date_amount, date_readable, date_value, day_is, exception_is, id_word, is_date_readable, is_week_readable, readable_days, week_is, week_readable}
 use Rattle.gtfs_trip_rules.proofs.SoundRows.{all_alike, all_both, all_read, any_kept, apart, apart_is, days_once, find_first, rising_filter, rising_range, week_sound, Rising}
 

@@ -14,7 +14,7 @@ use Rattle.std.proofs.lemmas.Cmp.{nat_cmp_total, ranked, tied_itself}
 use Rattle.std.proofs.lemmas.Map.Keys.{ge_from_not_lt}
 use Rattle.std.proofs.lemmas.Map.Lookups.{exact_unsigned}
 use Rattle.gtfs_field.proofs.OrderingFacts.{nat-less as less_first}
-use Rattle.gtfs_columns.proofs.BoolFacts.{no_test, and_parts}
+use Rattle.gtfs_schema.proofs.BoolFacts.{no_test, and_parts}
 use Rattle.gtfs_trip_rules.proofs.SpanFacts.{covered_by, covers_by, shares_all, shares_parts}
 use Rattle.gtfs_trip_rules.specs.SpanView.{AreApart, AreFilled, IsMet, Key, Spans, covers, key_cmp, shares, span_end}
 

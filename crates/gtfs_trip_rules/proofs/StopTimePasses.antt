@@ -4,25 +4,25 @@ use Rattle.std.specs.Prelude.{◌&&◌, ◌||◌}
 use Rattle.std.proofs.lemmas.Bool.{cases_Bool}
 use Rattle.gtfs_table.specs.Tables.{Dataset}
 use Rattle.gtfs_table.specs.declared.file.File.TheVariants as file
-use Rattle.gtfs_columns.specs.declared.code.Code.{Code}
-use Rattle.gtfs_columns.specs.declared.code.Code.TheVariants as code
+use Rattle.gtfs_schema.specs.declared.code.Code.{Code}
+use Rattle.gtfs_schema.specs.declared.code.Code.TheVariants as code
 use Rattle.gtfs_trip_rules.specs.declared.stop_times.named.NamedRows.{NamedRows}
-use Rattle.gtfs_columns.specs.steps.FieldCodes.{field_codes, in_file_of}
-use Rattle.gtfs_columns.specs.steps.Found.{Reports}
-use Rattle.gtfs_columns.specs.steps.Picks.{at_column, in_file}
-use Rattle.gtfs_columns.specs.steps.SitePicks.{at_sites}
-use Rattle.gtfs_columns.specs.Problems.{Problem, is_problem}
+use Rattle.gtfs_schema.specs.steps.FieldCodes.{field_codes, in_file_of}
+use Rattle.gtfs_schema.specs.steps.Found.{Reports}
+use Rattle.gtfs_schema.specs.steps.Picks.{at_column, in_file}
+use Rattle.gtfs_schema.specs.steps.SitePicks.{at_sites}
+use Rattle.gtfs_schema.specs.Problems.{Problem, is_problem}
 use Rattle.gtfs_table.specs.Rows.{is_row, records_in}
 use Rattle.gtfs_trip_rules.specs.StopTimePicks.{departures_in_rows, in_names, in_rows, in_stop_times, in_times, names_in_rows, stops_in_rows, times_in_rows}
 use Rattle.gtfs_trip_rules.specs.StopTimes.{AreNamedRows}
-use Rattle.gtfs_columns.specs.TripRules.{lacks_time, leaves_early}
-use Rattle.gtfs_columns.proofs.FieldRowFacts.{silent_fields}
-use Rattle.gtfs_columns.proofs.RuleFacts.{silent_column}
-use Rattle.gtfs_columns.proofs.ReferenceFacts.{reported_at_names}
-use Rattle.gtfs_columns.proofs.StepFacts.{AtColumns, Reported, column_alike, reported_there}
-use Rattle.gtfs_columns.proofs.StopTypeFacts.{reported_at_kinds}
+use Rattle.gtfs_schema.specs.TripRules.{lacks_time, leaves_early}
+use Rattle.gtfs_schema.proofs.FieldRowFacts.{silent_fields}
+use Rattle.gtfs_schema.proofs.RuleFacts.{silent_column}
+use Rattle.gtfs_schema.proofs.ReferenceFacts.{reported_at_names}
+use Rattle.gtfs_schema.proofs.StepFacts.{AtColumns, Reported, column_alike, reported_there}
+use Rattle.gtfs_schema.proofs.StopTypeFacts.{reported_at_kinds}
 use Rattle.gtfs_trip_rules.proofs.StopTimeFacts.{Rules, early_rule, kind_rule, no_arrival_rule, no_departure_rule, other_kind, stop_rule, stop_unknown, trip_rule, trip_unknown}
-use Rattle.gtfs_columns.proofs.ReportingFacts.{reports_alike}
+use Rattle.gtfs_schema.proofs.ReportingFacts.{reports_alike}
 
 -- ---- the columns at which each code is reported in this file
 

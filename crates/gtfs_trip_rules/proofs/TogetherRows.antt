@@ -18,11 +18,11 @@ use Rattle.gtfs_field.proofs.NumberFacts.{int_cmp-pos, number_itself}
 use Rattle.gtfs_field.specs.TextOrder.{text_cmp}
 use Rattle.gtfs_table.specs.Tables.{Dataset}
 use Rattle.gtfs_table.specs.declared.file.File.TheVariants as file
-use Rattle.gtfs_columns.specs.declared.code.Code.TheVariants as code
-use Rattle.gtfs_columns.specs.Problems.{Problem, lists_problem}
-use Rattle.gtfs_columns.specs.steps.Found.{Reports, is_same}
-use Rattle.gtfs_columns.proofs.BoolFacts.{and_parts}
-use Rattle.gtfs_columns.proofs.SiteFacts.{problem_at}
+use Rattle.gtfs_schema.specs.declared.code.Code.TheVariants as code
+use Rattle.gtfs_schema.specs.Problems.{Problem, lists_problem}
+use Rattle.gtfs_schema.specs.steps.Found.{Reports, is_same}
+use Rattle.gtfs_schema.proofs.BoolFacts.{and_parts}
+use Rattle.gtfs_schema.proofs.SiteFacts.{problem_at}
 use Rattle.gtfs_stop_times.specs.KeptLists.{no_note, no_row, noted_row}
 use Rattle.gtfs_stop_times.specs.KeptStretches.{AreRising}
 use Rattle.gtfs_stop_times.specs.KeptTimes.{is_placed, is_untimed}

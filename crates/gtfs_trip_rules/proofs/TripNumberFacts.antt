@@ -16,7 +16,7 @@ use Rattle.std.proofs.lemmas.List.Elements.{All-filter, All-push}
 use Rattle.gtfs_stop_times.specs.declared.stop_time.StopTime.{StopTime}
 use Rattle.gtfs_trip_rules.specs.TripNotes.{note_of}
 use Rattle.gtfs_trip_rules.specs.TripNumbers.{AllNumbered, AreNamed, AreNumbered, HaveNumbers, IsNumbered, Keeps, name_at, number_of_trip, other_number}
-use Rattle.gtfs_columns.proofs.SiteFacts.{text_is, text_itself}
+use Rattle.gtfs_schema.proofs.SiteFacts.{text_is, text_itself}
 use Rattle.gtfs_stop_times.proofs.KeptListFacts.{map_alike}
 
 module _ (trips : List (List ℕ)) where

@@ -7,17 +7,17 @@ use Rattle.gtfs_field.proofs.NumberFacts.{number_itself}
 use Rattle.gtfs_table.specs.Tables.{Dataset}
 use Rattle.gtfs_table.specs.declared.file.File.{File}
 use Rattle.gtfs_table.specs.declared.file.File.TheVariants as file
-use Rattle.gtfs_columns.specs.declared.code.Code.{Code}
-use Rattle.gtfs_columns.specs.declared.code.Code.TheVariants as code
-use Rattle.gtfs_columns.specs.KeyRules.{key_twice}
-use Rattle.gtfs_columns.specs.steps.Picks.{at_column, in_file, is_kept, of_codes}
-use Rattle.gtfs_columns.specs.Problems.{FileName, kept, other, Problem, holds, is_code, is_problem}
-use Rattle.gtfs_columns.specs.Rows.{Rule, file_rank, is_file, reported_at}
+use Rattle.gtfs_schema.specs.declared.code.Code.{Code}
+use Rattle.gtfs_schema.specs.declared.code.Code.TheVariants as code
+use Rattle.gtfs_schema.specs.KeyRules.{key_twice}
+use Rattle.gtfs_schema.specs.steps.Picks.{at_column, in_file, is_kept, of_codes}
+use Rattle.gtfs_schema.specs.Problems.{FileName, kept, other, Problem, holds, is_code, is_problem}
+use Rattle.gtfs_schema.specs.Rows.{Rule, file_rank, is_file, reported_at}
 use Rattle.gtfs_table.specs.Rows.{is_row, records_in}
-use Rattle.gtfs_columns.specs.TripRules.{goes_back, is_end_untimed}
+use Rattle.gtfs_schema.specs.TripRules.{goes_back, is_end_untimed}
 use Rattle.gtfs_trip_rules.specs.StopTimePicks.{breaks_order}
-use Rattle.gtfs_columns.proofs.BoolFacts.{and_parts, or_left, or_right, same_test}
-use Rattle.gtfs_columns.proofs.SiteFacts.{code_is, file_is}
+use Rattle.gtfs_schema.proofs.BoolFacts.{and_parts, or_left, or_right, same_test}
+use Rattle.gtfs_schema.proofs.SiteFacts.{code_is, file_is}
 
 -- a rule that is reported at one column
 in_stop_times : (x : File) → is_file x file.StopTimes ≡ true → is_file file.StopTimes x ≡ true

@@ -14,24 +14,24 @@ use Rattle.gtfs_field.proofs.ListFacts.{any_mapped as any_map}
 use Rattle.gtfs_table.specs.Tables.{Dataset, Records, record_at}
 use Rattle.gtfs_table.specs.Blanks.{cut}
 use Rattle.gtfs_table.specs.declared.file.File.TheVariants as file
-use Rattle.gtfs_columns.specs.declared.code.Code.{Code}
-use Rattle.gtfs_columns.specs.declared.code.Code.TheVariants as code
+use Rattle.gtfs_schema.specs.declared.code.Code.{Code}
+use Rattle.gtfs_schema.specs.declared.code.Code.TheVariants as code
 use Rattle.gtfs_stop_times.specs.declared.stop_time.StopTime.{StopTime}
-use Rattle.gtfs_columns.specs.steps.Found.{Adds, Reports, is_same}
-use Rattle.gtfs_columns.specs.steps.Picks.{at_column}
-use Rattle.gtfs_columns.specs.Problems.{Problem, holds_in, lists_problem, is_problem}
+use Rattle.gtfs_schema.specs.steps.Found.{Adds, Reports, is_same}
+use Rattle.gtfs_schema.specs.steps.Picks.{at_column}
+use Rattle.gtfs_schema.specs.Problems.{Problem, holds_in, lists_problem, is_problem}
 use Rattle.gtfs_table.specs.Rows.{is_row, records_in, rows, is_empty}
 use Rattle.gtfs_trip_rules.specs.StopTimePicks.{breaks_order}
 use Rattle.gtfs_trip_rules.specs.TripJudged.{AddsOfRow}
 use Rattle.gtfs_trip_rules.specs.TripOrder.{ends, is_left_later, is_untimed_end, left_before, repeats, row_cmp, rows_before, rows_from, same_sequence, same_trip, InOrder}
 use Rattle.gtfs_trip_rules.specs.TripStopTimes.{TripStopTime, has_trip_stop_time, trip_stop_time, trip_stop_time_in, trip_stop_times_in}
-use Rattle.gtfs_columns.specs.Values.{if_there}
-use Rattle.gtfs_columns.proofs.BoolFacts.{and_parts, or_left, or_right, same_test}
-use Rattle.gtfs_columns.proofs.SiteFacts.{at_column_is, problem_at}
-use Rattle.gtfs_columns.proofs.RowFacts.{at_row}
-use Rattle.gtfs_columns.proofs.RuleFacts.{row_reported}
+use Rattle.gtfs_schema.specs.Values.{if_there}
+use Rattle.gtfs_schema.proofs.BoolFacts.{and_parts, or_left, or_right, same_test}
+use Rattle.gtfs_schema.proofs.SiteFacts.{at_column_is, problem_at}
+use Rattle.gtfs_schema.proofs.RowFacts.{at_row}
+use Rattle.gtfs_schema.proofs.RuleFacts.{row_reported}
 use Rattle.gtfs_trip_rules.proofs.SplitLists.{IsAscending, IsSplit, ascends_from_sorted, onto, onto_index, split_of}
-use Rattle.gtfs_columns.proofs.ReportingFacts.{reports_alike, reports_none, reports_then}
+use Rattle.gtfs_schema.proofs.ReportingFacts.{reports_alike, reports_none, reports_then}
 use Rattle.gtfs_trip_rules.proofs.TripPicks.{at_back, at_ends, at_key, same_picks}
 use Rattle.gtfs_trip_rules.proofs.TripPositions.{earlier_row, earlier_twin, is_left_late, is_timed_in, last_left_late, later_row}
 use Rattle.gtfs_trip_rules.proofs.TripRestated.{any_filter, back_restated, end_restated, ends_untimed, goes_back_among, key_restated, repeats_among}

@@ -24,8 +24,8 @@ use Rattle.gtfs_trip_rules.specs.TripNumbers.{AllNumbered, IsNumbered}
 use Rattle.gtfs_stop_times.specs.StopTimeOrder.{kept_cmp}
 use Rattle.gtfs_trip_rules.specs.TripOrder.{row_cmp, AreInOrder, InOrder}
 use Rattle.gtfs_trip_rules.specs.TripStopTimes.{TripStopTime, has_trip_stop_time, trip_stop_time, trip_stop_time_in, trip_stop_times_in}
-use Rattle.gtfs_columns.proofs.BoolFacts.{no_test}
-use Rattle.gtfs_columns.proofs.FoundFacts.{sorted_mapped}
+use Rattle.gtfs_schema.proofs.BoolFacts.{no_test}
+use Rattle.gtfs_schema.proofs.FoundFacts.{sorted_mapped}
 use Rattle.gtfs_trip_rules.proofs.TripStopTimeOrder.{row_total}
 
 -- ---- each row of a file comes once

@@ -16,8 +16,8 @@ use Rattle.gtfs_field.proofs.TestFacts.{and_fails}
 use Rattle.gtfs_field.specs.TextOrder.{text_cmp}
 use Rattle.gtfs_trip_rules.specs.TripOrder.{row_cmp, same_sequence, same_trip, trip_cmp}
 use Rattle.gtfs_trip_rules.specs.TripStopTimes.{TripStopTime}
-use Rattle.gtfs_columns.proofs.BoolFacts.{and_parts, and_under}
-use Rattle.gtfs_columns.proofs.SiteFacts.{text_is, text_itself}
+use Rattle.gtfs_schema.proofs.BoolFacts.{and_parts, and_under}
+use Rattle.gtfs_schema.proofs.SiteFacts.{text_is, text_itself}
 
 abbrev sequence_cmp : TripStopTime → TripStopTime → Ordering
 sequence_cmp = then_cmp (on (λ r. r.sequence) int_cmp) (on (λ r. r.row) nat_cmp)

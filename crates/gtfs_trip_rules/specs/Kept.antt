@@ -4,10 +4,10 @@ use Rattle.std.specs.List.{All}
 use Rattle.gtfs_table.specs.Tables.{Dataset}
 use Rattle.gtfs_table.specs.declared.file.File.TheVariants as file
 use Rattle.gtfs_table.specs.Rows.{is_empty}
-use Rattle.gtfs_columns.specs.Columns.{count, id, time, up_to}
-use Rattle.gtfs_columns.specs.IdNumbers.{number_of_id}
-use Rattle.gtfs_columns.specs.ReadRules.{IsReadAs}
-use Rattle.gtfs_columns.specs.Reads.{amount_of, choice_of, word_of}
+use Rattle.gtfs_schema.specs.Columns.{count, id, time, up_to}
+use Rattle.gtfs_schema.specs.IdNumbers.{number_of_id}
+use Rattle.gtfs_schema.specs.ReadRules.{IsReadAs}
+use Rattle.gtfs_schema.specs.Reads.{amount_of, choice_of, word_of}
 use Rattle.gtfs_stop_times.specs.Choices.{drop_off_code, pickup_code, timepoint_code}
 use Rattle.gtfs_stop_times.specs.declared.stop_time.StopTime.{StopTime}
 use Rattle.gtfs_trip_rules.specs.StopTimes.{stop_time_text}

@@ -4,11 +4,11 @@ use Rattle.std.specs.Prelude.{ℕ, ◌&&◌, Bool, List, Option, option_and_then
 use Rattle.std.specs.List.{list_any}
 use Rattle.gtfs_table.specs.Tables.{Dataset, field_under}
 use Rattle.gtfs_table.specs.declared.file.File.TheVariants as file
-use Rattle.gtfs_columns.specs.Columns.{id}
-use Rattle.gtfs_columns.specs.Reads.{seconds_of, word_of}
-use Rattle.gtfs_columns.specs.Rows.{text_in}
+use Rattle.gtfs_schema.specs.Columns.{id}
+use Rattle.gtfs_schema.specs.Reads.{seconds_of, word_of}
+use Rattle.gtfs_schema.specs.Rows.{text_in}
 use Rattle.gtfs_trip_rules.specs.SpanView.{shares}
-use Rattle.gtfs_columns.specs.Values.{if_there}
+use Rattle.gtfs_schema.specs.Values.{if_there}
 use Rattle.gtfs_trip_rules.specs.declared.periods.columns.FrequencyColumns.{FrequencyColumns}
 
 -- a trip, and the seconds from the origin at which a period starts and ends

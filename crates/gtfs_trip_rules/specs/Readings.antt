@@ -1,12 +1,12 @@
 -- What reading a field once found: that it is empty, what is wrong with it, or its value.
 use Rattle.std.specs.Prelude.{ℕ, Bool, true, false, if◌then◌else◌, List, option_map, Option, Some, None}
 use Rattle.std.specs.Borrow.{Bor}
-use Rattle.gtfs_columns.specs.declared.code.Code.{Code}
-use Rattle.gtfs_columns.specs.declared.code.Code.TheVariants as code
+use Rattle.gtfs_schema.specs.declared.code.Code.{Code}
+use Rattle.gtfs_schema.specs.declared.code.Code.TheVariants as code
 use Rattle.gtfs_trip_rules.specs.declared.stop_times.reading.Reading.{Reading}
 use Rattle.gtfs_trip_rules.specs.declared.stop_times.reading.Reading.TheVariants as reading
-use Rattle.gtfs_columns.specs.steps.Cells.{fault_code, when}
-use Rattle.gtfs_columns.specs.Columns.{Kind}
+use Rattle.gtfs_schema.specs.steps.Cells.{fault_code, when}
+use Rattle.gtfs_schema.specs.Columns.{Kind}
 use Rattle.gtfs_table.specs.Rows.{is_empty}
 
 abbrev pub is_blank : {V : Type 0} → Reading V → Bool

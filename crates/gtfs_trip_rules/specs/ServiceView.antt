@@ -12,10 +12,10 @@ use Rattle.gtfs_table.specs.declared.file.File.{File}
 use Rattle.gtfs_table.specs.declared.file.File.TheVariants as file
 use Rattle.gtfs_trip_rules.specs.declared.services.source.Source.{Source}
 use Rattle.gtfs_trip_rules.specs.declared.services.source.Source.TheVariants as source
-use Rattle.gtfs_columns.specs.Calendars.{days_named}
-use Rattle.gtfs_columns.specs.KeyRules.{all_there}
-use Rattle.gtfs_columns.specs.Reads.{is_id}
-use Rattle.gtfs_columns.specs.Values.{if_there, one_of}
+use Rattle.gtfs_schema.specs.Calendars.{days_named}
+use Rattle.gtfs_schema.specs.KeyRules.{all_there}
+use Rattle.gtfs_schema.specs.Reads.{is_id}
+use Rattle.gtfs_schema.specs.Values.{if_there, one_of}
 
 -- ---- rows
 

@@ -4,7 +4,7 @@ use Rattle.std.specs.BTreeMap.{BTreeMap, get}
 use Rattle.std.specs.List.{list_any}
 use Rattle.std.specs.Ordering.{nat_cmp, ordering_then}
 use Rattle.std.specs.declared.cmp.Ordering.{Ordering}
-use Rattle.gtfs_columns.specs.PeriodRules.{share_second}
+use Rattle.gtfs_schema.specs.PeriodRules.{share_second}
 
 -- the number of a trip, and the start of a span
 abbrev pub Key : Type 0

@@ -2,11 +2,11 @@
 use Rattle.std.specs.Prelude.{ℕ, ◌&&◌, ◌||◌, ◌==◌, Bool, List, [], ◌∷◌, codes}
 use Rattle.gtfs_table.specs.declared.file.File.{File}
 use Rattle.gtfs_table.specs.declared.file.File.TheVariants as file
-use Rattle.gtfs_columns.specs.declared.code.Code.TheVariants as code
-use Rattle.gtfs_columns.specs.steps.FieldCodes.{field_codes, in_file_of}
-use Rattle.gtfs_columns.specs.steps.Picks.{in_file, of_codes}
-use Rattle.gtfs_columns.specs.steps.SitePicks.{at_sites}
-use Rattle.gtfs_columns.specs.Problems.{Problem}
+use Rattle.gtfs_schema.specs.declared.code.Code.TheVariants as code
+use Rattle.gtfs_schema.specs.steps.FieldCodes.{field_codes, in_file_of}
+use Rattle.gtfs_schema.specs.steps.Picks.{in_file, of_codes}
+use Rattle.gtfs_schema.specs.steps.SitePicks.{at_sites}
+use Rattle.gtfs_schema.specs.Problems.{Problem}
 
 -- the picked problems of one row
 abbrev pub at_row : (Problem → Bool) → ℕ → Problem → Bool

@@ -4,10 +4,10 @@ use Rattle.std.specs.List.{list_any}
 use Rattle.std.specs.Option.{option_or}
 use Prim.Native.String.{String as Literal}
 use Rattle.gtfs_table.specs.declared.file.File.TheVariants as file
-use Rattle.gtfs_columns.specs.declared.code.Code.{Code}
-use Rattle.gtfs_columns.specs.declared.code.Code.TheVariants as code
-use Rattle.gtfs_columns.specs.steps.Found.{Adds, is_same}
-use Rattle.gtfs_columns.specs.Problems.{Problem, kept}
+use Rattle.gtfs_schema.specs.declared.code.Code.{Code}
+use Rattle.gtfs_schema.specs.declared.code.Code.TheVariants as code
+use Rattle.gtfs_schema.specs.steps.Found.{Adds, is_same}
+use Rattle.gtfs_schema.specs.Problems.{Problem, kept}
 use Rattle.gtfs_stop_times.specs.KeptTimes.{arrives, departs, is_untimed}
 use Rattle.gtfs_trip_rules.specs.TripOrder.{is_left_later}
 use Rattle.gtfs_trip_rules.specs.declared.trips.judge.Judge.{Judge}

@@ -3,17 +3,17 @@ mod covered;
 mod trip_numbers;
 
 ghost use Rattle.std.specs.Prelude.{◌≡◌, [], ◌∷◌, ℕ, ◌||◌, Bool, List, IfOk, OnOk};
-ghost use Rattle.gtfs_columns.specs.declared.code.Code.TheVariants as code;
-ghost use Rattle.gtfs_columns.specs.steps.Found.{Reports};
+ghost use Rattle.gtfs_schema.specs.declared.code.Code.TheVariants as code;
+ghost use Rattle.gtfs_schema.specs.steps.Found.{Reports};
 ghost use Rattle.gtfs_trip_rules.specs.CoveredTrips.{AreOfTrips, covers_trip};
 ghost use Rattle.gtfs_trip_rules.specs.PeriodView.{meets_one, period_at};
-ghost use Rattle.gtfs_columns.specs.steps.Picks.{of_codes};
-ghost use Rattle.gtfs_columns.specs.Values.{if_there};
+ghost use Rattle.gtfs_schema.specs.steps.Picks.{of_codes};
+ghost use Rattle.gtfs_schema.specs.Values.{if_there};
 
 use columns::FrequencyColumns;
 use covered::Covered;
-use gtfs_columns::{Code, FileName, Found, Problem};
 use gtfs_field::OutOfMemory;
+use gtfs_schema::{Code, FileName, Found, Problem};
 use gtfs_table::{File, Record, Tables};
 use std::alloc::Global;
 use trip_numbers::TripNumbers;

@@ -1,12 +1,12 @@
 ghost use Rattle.std.specs.Prelude.{◌≡◌, ◌&&◌, ◌∷◌, [], ℕ, codes, map, IfOk, OnOk};
-ghost use Rattle.gtfs_columns.specs.steps.Found.{Reports};
-ghost use Rattle.gtfs_columns.specs.steps.Picks.{at_column, of_codes};
-ghost use Rattle.gtfs_columns.specs.Problems.{holds_in};
+ghost use Rattle.gtfs_schema.specs.steps.Found.{Reports};
+ghost use Rattle.gtfs_schema.specs.steps.Picks.{at_column, of_codes};
+ghost use Rattle.gtfs_schema.specs.Problems.{holds_in};
 ghost use Rattle.gtfs_table.specs.Rows.{is_row as row_of, records_in};
 ghost use Rattle.gtfs_trip_rules.specs.ServiceFields.{calendars_of};
 ghost use Rattle.gtfs_trip_rules.specs.ServiceRows.{calendars_in};
 ghost use Rattle.gtfs_trip_rules.specs.ServiceView.{are_idle, file_of, first_of, is_reported, reported_row};
-ghost use Rattle.gtfs_columns.specs.declared.code.Code.TheVariants as code;
+ghost use Rattle.gtfs_schema.specs.declared.code.Code.TheVariants as code;
 
 pub(crate) mod by_id;
 mod dates;
@@ -20,8 +20,8 @@ use crate::services::dates::Dates;
 use crate::services::idle::is_never_active;
 use crate::services::source::Source;
 use crate::services::weeks::Weeks;
-use gtfs_columns::{Code, FileName, Found, Problem, values};
 use gtfs_field::OutOfMemory;
+use gtfs_schema::{Code, FileName, Found, Problem, values};
 use gtfs_table::{File, Tables};
 use std::alloc::Global;
 

@@ -5,7 +5,7 @@ use Rattle.std.proofs.lemmas.Bool.{cases_lt, ne_eqb}
 use Rattle.std.proofs.lemmas.Str.{encode_ascii}
 use Rattle.csv.specs.Writing.{default_writer, escaped}
 use Rattle.gtfs_table.proofs.WriteFacts.{escaped-append}
-use Rattle.gtfs_columns.proofs.PlainTexts.{high-bytes}
+use Rattle.gtfs_schema.proofs.PlainTexts.{high-bytes}
 
 escaped-high : (bs : List ℕ) → ((k : ℕ) → k < length bs → 128 ≤ get_or bs k 0) → escaped default_writer bs ≡ bs
 unfolding escaped

@@ -12,8 +12,8 @@ use Rattle.csv.proofs.RecordFacts.{rising-first}
 use Rattle.gtfs_table.specs.Parts.{parts}
 use Rattle.gtfs_table.specs.Written.{text_of_records}
 use Rattle.gtfs_table.specs.declared.file.File.TheVariants as file
-use Rattle.gtfs_columns.specs.Columns.{columns_of, text, time, up_to}
-use Rattle.gtfs_columns.specs.Values.{word}
+use Rattle.gtfs_schema.specs.Columns.{columns_of, text, time, up_to}
+use Rattle.gtfs_schema.specs.Values.{word}
 use Rattle.gtfs_rows.specs.declared.frequency.Frequency.{Frequency}
 use Rattle.gtfs_rows.specs.declared.parts.Parts.{Parts}
 use Rattle.gtfs_stop_times.specs.declared.stop_row.StopRow.{StopRow as StopTime}

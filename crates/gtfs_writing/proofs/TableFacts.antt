@@ -7,7 +7,7 @@ use Rattle.gtfs_table.specs.Parts.{add_to_last}
 use Rattle.gtfs_table.specs.Tables.{Records, Table, Dataset, of_records, table_of, table_records, with_record, with_table}
 use Rattle.gtfs_table.specs.declared.file.File.{File}
 use Rattle.gtfs_table.specs.declared.file.File.TheVariants as file
-use Rattle.gtfs_columns.specs.Columns.{Column, columns_of}
+use Rattle.gtfs_schema.specs.Columns.{Column, columns_of}
 use Rattle.gtfs_rows.specs.Cells.{Cell, are_cells, record_text}
 use Rattle.gtfs_rows.specs.Content.{Content}
 use Rattle.gtfs_rows.specs.RowCells.{cells_in}

@@ -14,7 +14,7 @@ use Rattle.gtfs_table.specs.Tables.{Records}
 use Rattle.gtfs_table.specs.Written.{text_of_records}
 use Rattle.gtfs_table.specs.declared.file.File.{File}
 use Rattle.gtfs_table.specs.declared.file.File.TheVariants as file
-use Rattle.gtfs_columns.specs.Columns.{Column, columns_of}
+use Rattle.gtfs_schema.specs.Columns.{Column, columns_of}
 use Rattle.gtfs_rows.specs.Cells.{Cell, are_cells, cell_text, record_text}
 use Rattle.gtfs_rows.specs.Content.{Content}
 use Rattle.gtfs_rows.specs.RowCells.{cells_in}

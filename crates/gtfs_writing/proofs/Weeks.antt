@@ -5,8 +5,8 @@ use Rattle.std.specs.Result.{OnOk}
 use Rattle.gtfs_field.specs.Canonical.{count_text, date_text}
 use Rattle.gtfs_days.specs.declared.week.Week.{Week}
 use Rattle.gtfs_table.specs.declared.file.File.TheVariants as file
-use Rattle.gtfs_columns.specs.Columns.{columns_of}
-use Rattle.gtfs_columns.specs.Values.{word, amount}
+use Rattle.gtfs_schema.specs.Columns.{columns_of}
+use Rattle.gtfs_schema.specs.Values.{word, amount}
 use Rattle.gtfs_rows.specs.Cells.{record_text}
 use Rattle.gtfs_rows.specs.RowCells.{flag, week_cells}
 use Rattle.gtfs_writing.specs.Taking.{Taking, with_fields, with_row}

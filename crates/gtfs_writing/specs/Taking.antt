@@ -9,7 +9,7 @@ use Rattle.gtfs_stop_times.specs.Choices.{drop_off_code, pickup_code, timepoint_
 use Rattle.gtfs_stop_times.specs.declared.choices.DropOffType.{DropOffType}
 use Rattle.gtfs_stop_times.specs.declared.choices.PickupType.{PickupType}
 use Rattle.gtfs_stop_times.specs.declared.choices.Timepoint.{Timepoint}
-use Rattle.gtfs_columns.specs.Columns.{columns_of}
+use Rattle.gtfs_schema.specs.Columns.{columns_of}
 use Rattle.gtfs_rows.specs.Cells.{record_text}
 use Rattle.gtfs_rows.specs.Content.{Content}
 use Rattle.gtfs_rows.specs.RowCells.{cells_in}

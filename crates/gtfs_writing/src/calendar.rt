@@ -1,6 +1,6 @@
 ghost use Rattle.std.specs.Prelude.{◌≡◌, if◌then◌else◌, length, map, OnOk};
 ghost use Rattle.gtfs_field.specs.Canonical.{count_text};
-ghost use Rattle.gtfs_columns.specs.Columns.{columns_of};
+ghost use Rattle.gtfs_schema.specs.Columns.{columns_of};
 ghost use Rattle.gtfs_rows.specs.Cells.{record_text};
 ghost use Rattle.gtfs_rows.specs.RowCells.{week_cells, week_list};
 ghost use Rattle.gtfs_rows.specs.Views.{IsSoundParts, content_of_parts};

@@ -1,5 +1,5 @@
 ghost use Rattle.std.specs.Prelude.{◌≡◌, map, OnOk};
-ghost use Rattle.gtfs_columns.specs.Columns.{columns_of};
+ghost use Rattle.gtfs_schema.specs.Columns.{columns_of};
 ghost use Rattle.gtfs_rows.specs.Cells.{record_text};
 ghost use Rattle.gtfs_rows.specs.RowCells.{exception_cells, exception_number};
 ghost use Rattle.gtfs_rows.specs.Views.{IsSoundParts, content_of_parts};

@@ -1,15 +1,15 @@
 ghost use Rattle.std.specs.Prelude.{◌≡◌, map, OnOk};
-ghost use Rattle.gtfs_columns.specs.Columns.{columns_of};
-ghost use Rattle.gtfs_columns.specs.steps.ColumnView.{column_of};
+ghost use Rattle.gtfs_schema.specs.Columns.{columns_of};
+ghost use Rattle.gtfs_schema.specs.steps.ColumnView.{column_of};
 ghost use Rattle.gtfs_writing.specs.Taking.{with_fields, with_row};
 
 use crate::fields::Fields;
 use crate::sink::Sink;
-use gtfs_columns::{
+use gtfs_field::OutOfMemory;
+use gtfs_schema::{
     Column, agency_columns, calendar_columns, calendar_dates_columns, frequencies_columns,
     routes_columns, stop_times_columns, stops_columns, transfers_columns, trips_columns,
 };
-use gtfs_field::OutOfMemory;
 use gtfs_table::File;
 
 // The header of a file: the names of its kept columns.

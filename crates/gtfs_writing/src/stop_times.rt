@@ -1,7 +1,7 @@
 ghost use Rattle.std.specs.Prelude.{◌≡◌, map, true, OnOk};
 ghost use Rattle.std.specs.List.{list_all};
 ghost use Rattle.csv.specs.Writing.{default_writer, needs_quotes};
-ghost use Rattle.gtfs_columns.specs.Columns.{columns_of};
+ghost use Rattle.gtfs_schema.specs.Columns.{columns_of};
 ghost use Rattle.gtfs_rows.specs.Cells.{record_text};
 ghost use Rattle.gtfs_rows.specs.RowCells.{stop_time_cells};
 ghost use Rattle.gtfs_rows.specs.Views.{IsSoundParts, content_of_parts, stop_row_of, stop_time_names_rows};

@@ -1,5 +1,5 @@
 ghost use Rattle.std.specs.Prelude.{◌≡◌, true, OnOk};
-ghost use Rattle.gtfs_columns.specs.Columns.{columns_of};
+ghost use Rattle.gtfs_schema.specs.Columns.{columns_of};
 ghost use Rattle.gtfs_rows.specs.Cells.{record_text};
 ghost use Rattle.gtfs_rows.specs.RowCells.{stop_cells};
 ghost use Rattle.gtfs_rows.specs.Views.{IsSoundParts, content_of_parts, names_stop, stop_of};

@@ -1,6 +1,6 @@
 ghost use Rattle.std.specs.Prelude.{◌≡◌, true, option_map, OnOk};
-ghost use Rattle.gtfs_columns.specs.Columns.{columns_of, id};
-ghost use Rattle.gtfs_columns.specs.Values.{word};
+ghost use Rattle.gtfs_schema.specs.Columns.{columns_of, id};
+ghost use Rattle.gtfs_schema.specs.Values.{word};
 ghost use Rattle.gtfs_rows.specs.Cells.{cell_text, record_text};
 ghost use Rattle.gtfs_rows.specs.RowCells.{transfer_cells};
 ghost use Rattle.gtfs_rows.specs.Views.{IsSoundParts, content_of_parts, names_route, names_stop, names_trip, transfer_names_rows, transfer_of};

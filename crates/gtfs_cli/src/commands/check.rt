@@ -1,8 +1,8 @@
 //! `gtfs check`: what is wrong with a feed and, where nothing is an error, advice on it.
 ghost use Rattle.std.specs.Prelude.{◌≡◌, ◌≤◌, ◌≢◌, ◌&&◌, ◌∷◌, [], not, true, false, if◌then◌else◌, map, count_by, length, nat_lt, option_map, None, Some, IfOk, IfErr};
-ghost use Rattle.gtfs_columns.specs.Codes.{is_error};
-ghost use Rattle.gtfs_columns.specs.Problems.{passes, IsReport};
-ghost use Rattle.gtfs_columns.specs.View.{problem_of};
+ghost use Rattle.gtfs_schema.specs.Codes.{is_error};
+ghost use Rattle.gtfs_schema.specs.Problems.{passes, IsReport};
+ghost use Rattle.gtfs_schema.specs.View.{problem_of};
 ghost use Rattle.gtfs_rows.specs.Reading.{content_of};
 ghost use Rattle.gtfs_rows.specs.Views.{content_of_parts};
 ghost use Rattle.gtfs_commands.specs.Words.{check_texts_of};

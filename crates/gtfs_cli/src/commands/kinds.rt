@@ -1,8 +1,8 @@
 //! How many problems of a report have the same code, file and column.
 ghost use Rattle.std.specs.Prelude.{◌≡◌, if◌then◌else◌, map, unwrap_or, None, IfOk};
 ghost use Rattle.std.specs.BTreeMap.{get};
-ghost use Rattle.gtfs_columns.specs.View.{problem_of};
-ghost use Rattle.gtfs_columns.specs.declared.problem.Problem.{Problem as Lent};
+ghost use Rattle.gtfs_schema.specs.View.{problem_of};
+ghost use Rattle.gtfs_schema.specs.declared.problem.Problem.{Problem as Lent};
 ghost use Rattle.gtfs_cli.specs.CheckLines.{count_alike, is_alike};
 ghost use Rattle.gtfs_cli.specs.LentKinds.{held_for, if_any, lent_cmp};
 

@@ -3,7 +3,7 @@ ghost use Rattle.std.specs.Io.KnownBytes.{Appends};
 ghost use Rattle.std.specs.List.{position_from};
 ghost use Rattle.gtfs_table.specs.Blanks.{is_control};
 ghost use Rattle.gtfs_devices.specs.Device.{Rises};
-ghost use Rattle.gtfs_columns.specs.Values.{plain};
+ghost use Rattle.gtfs_schema.specs.Values.{plain};
 ghost use Rattle.gtfs_cli.specs.Messages.{line_of, message, HasLine};
 ghost use Rattle.gtfs_cli.specs.Sending.{SendsBeginning};
 

@@ -1,6 +1,6 @@
 //! The lines of problems, which a check prints.
 ghost use Rattle.std.specs.Prelude.{◌≡◌, ◌∷◌, [], None, map, option_map};
-ghost use Rattle.gtfs_columns.specs.View.{problem_of};
+ghost use Rattle.gtfs_schema.specs.View.{problem_of};
 ghost use Rattle.gtfs_commands.specs.Words.{check_texts_of};
 ghost use Rattle.gtfs_cli.specs.CheckLines.{is_alike, line_with, problem_lines, problem_value, shown_line, wanted_value};
 ghost use Rattle.gtfs_cli.specs.Firsts.{firsts, if_counted};
@@ -11,9 +11,9 @@ use crate::commands::refusal::Refusal;
 use crate::commands::send::send;
 use crate::report::push_line;
 use crate::seen::OutSeen;
-use gtfs_columns::FileName;
 use gtfs_commands::CheckTexts;
 use gtfs_rules::Problem;
+use gtfs_schema::FileName;
 use gtfs_table::{Out, Tables};
 use std::alloc::Global;
 

@@ -1,14 +1,14 @@
 ghost use Rattle.std.specs.Prelude.{◌≡◌, ◌++◌, ◌≤◌, ◌+◌, ◌-◌, ◌^◌, length, min, string_bytes, string_len, OnOk, OnErr};
 ghost use Rattle.std.specs.String.{string_capacity};
 ghost use Rattle.gtfs_rules.specs.Report.{column_shown, problem_line};
-ghost use Rattle.gtfs_columns.specs.Values.{plain};
-ghost use Rattle.gtfs_columns.specs.View.{problem_of};
+ghost use Rattle.gtfs_schema.specs.Values.{plain};
+ghost use Rattle.gtfs_schema.specs.View.{problem_of};
 ghost use Rattle.gtfs_cli.specs.CheckLines.{names_len, without_end};
 
 use crate::report::pieces::push_piece;
-use gtfs_columns::push_plain;
 use gtfs_field::OutOfMemory;
 use gtfs_rules::Problem;
+use gtfs_schema::push_plain;
 use itoa::Buffer;
 
 // How many bytes of a line are neither a name nor a text of the code, at most: the row has 20, a

@@ -4,9 +4,9 @@ ghost use Rattle.gtfs_merge.specs.Report.{joined_line, kind_name, renamed_line};
 ghost use Rattle.gtfs_cli.specs.NamesReport.{line_room, line_text, near_text, renamed_len};
 
 use crate::report::pieces::push_piece;
-use gtfs_columns::push_plain;
 use gtfs_field::OutOfMemory;
 use gtfs_merge::{Kind, Side};
+use gtfs_schema::push_plain;
 use itoa::Buffer;
 
 // How many bytes of the line of a renamed id are no name and no id: three tabs and the line feed.

@@ -1,5 +1,5 @@
 ghost use Rattle.std.specs.Prelude.{◌≡◌, ◌++◌, option_map, string_bytes, OnOk};
-ghost use Rattle.gtfs_columns.specs.View.{problem_of};
+ghost use Rattle.gtfs_schema.specs.View.{problem_of};
 ghost use Rattle.gtfs_cli.specs.CheckLines.{count_shown, line_with, values_shown};
 
 use crate::report::line::push_problem;

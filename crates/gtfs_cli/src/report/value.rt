@@ -1,10 +1,10 @@
 ghost use Rattle.std.specs.Prelude.{◌≡◌, ◌++◌, if◌then◌else◌, chars, encode_utf8, encode_utf8_all, string_bytes, take, OnOk};
-ghost use Rattle.gtfs_columns.specs.Values.{plain};
+ghost use Rattle.gtfs_schema.specs.Values.{plain};
 ghost use Rattle.gtfs_table.specs.Blanks.{is_control};
 ghost use Rattle.gtfs_cli.specs.CheckLines.{shown_value, value_field};
 
-use gtfs_columns::push_plain;
 use gtfs_field::OutOfMemory;
+use gtfs_schema::push_plain;
 
 // The most characters of a value that are shown whole.
 const MOST: usize = 60;

@@ -1,9 +1,9 @@
 -- What a report and what passed tables hold.
 use Rattle.std.specs.Prelude.{List}
 use Rattle.gtfs_table.specs.Tables.{Dataset}
-use Rattle.gtfs_columns.specs.Problems.{Problem, IsReport, Passes}
-use Rattle.gtfs_columns.specs.declared.feed_ids.FeedIds.{FeedIds}
-use Rattle.gtfs_columns.specs.steps.FeedIds.{AreIdsOf}
+use Rattle.gtfs_schema.specs.Problems.{Problem, IsReport, Passes}
+use Rattle.gtfs_schema.specs.declared.feed_ids.FeedIds.{FeedIds}
+use Rattle.gtfs_schema.specs.steps.FeedIds.{AreIdsOf}
 use Rattle.gtfs_rules.specs.StopTimes.{AreStopTimes}
 use Rattle.gtfs_trip_rules.specs.KeptOrder.{AreKeptOf}
 use Rattle.gtfs_stop_times.specs.declared.stop_time.StopTime.{StopTime}

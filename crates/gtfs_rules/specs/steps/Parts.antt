@@ -1,9 +1,9 @@
 -- Which problems each part of the check looks at.
 use Rattle.std.specs.Prelude.{◌||◌, Bool, [], ◌∷◌}
 use Rattle.gtfs_table.specs.declared.file.File.TheVariants as file
-use Rattle.gtfs_columns.specs.declared.code.Code.TheVariants as code
-use Rattle.gtfs_columns.specs.steps.Picks.{in_file, of_codes}
-use Rattle.gtfs_columns.specs.Problems.{Problem}
+use Rattle.gtfs_schema.specs.declared.code.Code.TheVariants as code
+use Rattle.gtfs_schema.specs.steps.Picks.{in_file, of_codes}
+use Rattle.gtfs_schema.specs.Problems.{Problem}
 use Rattle.gtfs_row_rules.specs.RowCodes.{in_rows}
 use Rattle.gtfs_trip_rules.specs.StopTimePicks.{in_stop_times}
 

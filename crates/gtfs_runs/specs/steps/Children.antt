@@ -4,7 +4,7 @@ use Rattle.std.specs.Prelude.{◌≡◌, ℕ, ◌==◌, ◌&&◌, not, All, Bool
 use Rattle.std.specs.List.Sorted.{IsSorted}
 use Rattle.std.specs.Ordering.{nat_cmp, on, then_cmp}
 use Rattle.std.specs.declared.cmp.Ordering.{Ordering}
-use Rattle.gtfs_columns.specs.Values.{if_there}
+use Rattle.gtfs_schema.specs.Values.{if_there}
 use Rattle.gtfs_rows.specs.Choices.{location_code}
 use Rattle.gtfs_rows.specs.declared.parts.Parts.{Parts}
 use Rattle.gtfs_times.specs.TimedRows.{timed_parts}

@@ -1,6 +1,6 @@
 ghost use Rattle.std.specs.Prelude.{◌≡◌, ◌<◌, ◌+◌, ◌&&◌, ◌==◌, ℕ, Bool, true, All, AllPairs, IfOk, List, OnOk, Some, cond, length, map, slice_get};
 ghost use Rattle.std.specs.List.Sorted.{IsSorted};
-ghost use Rattle.gtfs_columns.specs.Values.{if_there};
+ghost use Rattle.gtfs_schema.specs.Values.{if_there};
 ghost use Rattle.gtfs_rows.specs.Order.{Ascends};
 ghost use Rattle.gtfs_rows.specs.Trips.{stop_rows_by_trip};
 ghost use Rattle.gtfs_rows.specs.declared.frequency.Frequency.{Frequency};

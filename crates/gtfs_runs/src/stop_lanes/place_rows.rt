@@ -1,5 +1,5 @@
 ghost use Rattle.std.specs.Prelude.{◌≡◌, ◌<◌, ◌+◌, ◌&&◌, ◌==◌, ℕ, All, IfOk, List, OnOk, Some, cond, length, slice_get};
-ghost use Rattle.gtfs_columns.specs.Values.{if_there};
+ghost use Rattle.gtfs_schema.specs.Values.{if_there};
 ghost use Rattle.gtfs_rows.specs.Places.{members};
 ghost use Rattle.gtfs_rows.specs.Trips.{stop_rows_by_trip};
 ghost use Rattle.gtfs_rows.specs.Views.{content_of_parts, stop_ids, text_of_number};

@@ -4,7 +4,7 @@ ghost use Rattle.gtfs_table.specs.Tables.{record_at};
 ghost use Rattle.gtfs_table.specs.declared.file.File.TheVariants as file;
 ghost use Rattle.gtfs_trip_rules.specs.PeriodView.{period_at, period_in};
 
-use gtfs_columns::values;
+use gtfs_schema::values;
 use gtfs_table::{File, Record, Tables};
 
 // The indices of the columns of frequencies.txt that say when a trip runs.

@@ -1,12 +1,12 @@
 ghost use Rattle.std.specs.Prelude.{◌≡◌, ℕ, IfOk, map, option_map};
-ghost use Rattle.gtfs_columns.specs.KeyRules.{all_there};
+ghost use Rattle.gtfs_schema.specs.KeyRules.{all_there};
 ghost use Rattle.gtfs_trip_rules.specs.ServiceRows.{exception_in_texts};
 ghost use Rattle.gtfs_trip_rules.specs.ServiceFields.{exception_in};
 ghost use Rattle.gtfs_trip_rules.specs.ServiceView.{each_day_once, exceptions_of_rows};
 
-use gtfs_columns::read_choice;
 use gtfs_days::Exception;
 use gtfs_field::{Day, OutOfMemory, read_date};
+use gtfs_schema::read_choice;
 use gtfs_table::{File, Tables};
 use std::alloc::Global;
 

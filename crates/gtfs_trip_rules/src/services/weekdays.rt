@@ -6,7 +6,7 @@ ghost use Rattle.gtfs_trip_rules.specs.ServiceRows.{weekdays_in};
 ghost use Rattle.gtfs_trip_rules.specs.ServiceFields.{weekdays_at};
 ghost use Rattle.gtfs_trip_rules.specs.ServiceView.{weekday_of};
 
-use gtfs_columns::read_choice;
+use gtfs_schema::read_choice;
 use gtfs_table::{File, Record, Tables};
 
 // The indices of the columns of calendar.txt that name a weekday.

@@ -1,21 +1,21 @@
 ghost use Rattle.std.specs.Prelude.{◌≡◌, ◌||◌, is_some, IfOk};
 ghost use Rattle.gtfs_table.specs.Tables.{record_at};
 ghost use Rattle.gtfs_table.specs.declared.file.File.TheVariants as file;
-ghost use Rattle.gtfs_columns.specs.steps.ColumnView.{kind_of};
+ghost use Rattle.gtfs_schema.specs.steps.ColumnView.{kind_of};
 ghost use Rattle.gtfs_trip_rules.specs.KeptRow.{kept_row, row_said, times_of};
 ghost use Rattle.gtfs_trip_rules.specs.Readings.{fault_of, is_fault, value_in};
 ghost use Rattle.gtfs_table.specs.Rows.{records_in};
 ghost use Rattle.gtfs_trip_rules.specs.StopTimes.{stop_time_text, AreStopTimeColumns, IsReading, IsStopTime};
-ghost use Rattle.gtfs_columns.specs.Columns.{id};
-ghost use Rattle.gtfs_columns.specs.Values.{word};
+ghost use Rattle.gtfs_schema.specs.Columns.{id};
+ghost use Rattle.gtfs_schema.specs.Values.{word};
 
 use crate::stop_times::reading::{
     Reading, read_beside, read_clock, read_drop_off_type, read_number, read_pickup_type,
     read_timepoint,
 };
 use crate::trips::numbers::small_number;
-use gtfs_columns::{Code, Kind, fault_code};
 use gtfs_field::{Clock, OutOfMemory};
+use gtfs_schema::{Code, Kind, fault_code};
 use gtfs_stop_times::{
     DropOffType, OptionalClock, OptionalHeadsign, PickupType, StopNo, StopRow, StopTime, Timepoint,
     Times,

@@ -1,13 +1,13 @@
 ghost use Rattle.std.specs.Prelude.{◌&&◌, OnOk};
 ghost use Rattle.gtfs_table.specs.declared.file.File.TheVariants as file;
-ghost use Rattle.gtfs_columns.specs.steps.FieldCodes.{is_found_at, is_in_row};
-ghost use Rattle.gtfs_columns.specs.steps.Found.{Adds};
+ghost use Rattle.gtfs_schema.specs.steps.FieldCodes.{is_found_at, is_in_row};
+ghost use Rattle.gtfs_schema.specs.steps.Found.{Adds};
 ghost use Rattle.gtfs_trip_rules.specs.StopTimes.{fields_report};
 
 use crate::stop_times::columns::{ReadStopTime, StopTimeColumns};
 use crate::stop_times::problem;
-use gtfs_columns::{Code, Found, length_code};
 use gtfs_field::OutOfMemory;
+use gtfs_schema::{Code, Found, length_code};
 
 // Reports what is wrong with the length of a row and with its fields. A column that the header does
 // not name has to be filled in no row.

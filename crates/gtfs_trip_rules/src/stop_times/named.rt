@@ -1,18 +1,18 @@
 ghost use Rattle.std.specs.Prelude.{◌≡◌, ◌&&◌, ◌∷◌, [], not, is_some, option_and_then, option_map, OnOk};
 ghost use Rattle.gtfs_table.specs.Tables.{Dataset};
-ghost use Rattle.gtfs_columns.specs.steps.FeedIds.{AreIdsOf};
-ghost use Rattle.gtfs_columns.specs.steps.Ids.{first_row_with, number_with};
+ghost use Rattle.gtfs_schema.specs.steps.FeedIds.{AreIdsOf};
+ghost use Rattle.gtfs_schema.specs.steps.Ids.{first_row_with, number_with};
 ghost use Rattle.gtfs_trip_rules.specs.Readings.{text_of, value_in};
-ghost use Rattle.gtfs_columns.specs.steps.StopTypes.{type_of, AreStopTypes};
+ghost use Rattle.gtfs_schema.specs.steps.StopTypes.{type_of, AreStopTypes};
 ghost use Rattle.gtfs_trip_rules.specs.StopTimePicks.{in_names};
 ghost use Rattle.gtfs_trip_rules.specs.StopTimes.{AreNamedRows, IsNamedId, IsRow, ReportsOfRow};
-ghost use Rattle.gtfs_columns.specs.Values.{has_control, if_there, is_one_of};
+ghost use Rattle.gtfs_schema.specs.Values.{has_control, if_there, is_one_of};
 
 use crate::stop_times::columns::ReadStopTime;
 use crate::stop_times::problem;
 use crate::stop_times::reading::Reading;
-use gtfs_columns::{Code, FeedIds, Finder, Found, FoundId, Ids, has_control, is_one_of, type_of};
 use gtfs_field::OutOfMemory;
+use gtfs_schema::{Code, FeedIds, Finder, Found, FoundId, Ids, has_control, is_one_of, type_of};
 
 // The rows that stop times name: their trips, and their stops with the types of these.
 #[derive(Drop)]

@@ -3,13 +3,13 @@ ghost use Rattle.gtfs_table.specs.Tables.{Dataset};
 ghost use Rattle.gtfs_trip_rules.specs.Readings.{is_blank, value_in};
 ghost use Rattle.gtfs_trip_rules.specs.StopTimePicks.{in_times};
 ghost use Rattle.gtfs_trip_rules.specs.StopTimes.{IsRow, ReportsOfRow};
-ghost use Rattle.gtfs_columns.specs.Values.{if_both};
+ghost use Rattle.gtfs_schema.specs.Values.{if_both};
 
 use crate::stop_times::columns::ReadStopTime;
 use crate::stop_times::problem;
 use crate::stop_times::reading::Reading;
-use gtfs_columns::{Code, Found};
 use gtfs_field::{Clock, OutOfMemory};
+use gtfs_schema::{Code, Found};
 
 // Reports a row that is left before it is reached, or that has one of its two times alone.
 pub(crate) fn report_times<'a>(

@@ -1,18 +1,18 @@
 ghost use Rattle.std.specs.Prelude.{◌≡◌, ◌∷◌, [], OnOk};
-ghost use Rattle.gtfs_columns.specs.Columns.{id};
-ghost use Rattle.gtfs_columns.specs.Reads.{word_of};
-ghost use Rattle.gtfs_columns.specs.declared.code.Code.TheVariants as code;
-ghost use Rattle.gtfs_columns.specs.steps.Found.{Reports};
-ghost use Rattle.gtfs_columns.specs.steps.Ids.{ids_of};
-ghost use Rattle.gtfs_columns.specs.steps.Picks.{of_codes};
+ghost use Rattle.gtfs_schema.specs.Columns.{id};
+ghost use Rattle.gtfs_schema.specs.Reads.{word_of};
+ghost use Rattle.gtfs_schema.specs.declared.code.Code.TheVariants as code;
+ghost use Rattle.gtfs_schema.specs.steps.Found.{Reports};
+ghost use Rattle.gtfs_schema.specs.steps.Ids.{ids_of};
+ghost use Rattle.gtfs_schema.specs.steps.Picks.{of_codes};
 ghost use Rattle.gtfs_trip_rules.specs.TripCounts.{are_few};
 ghost use Rattle.gtfs_trip_rules.specs.TripNotes.{trip_notes_in};
-ghost use Rattle.gtfs_columns.specs.Values.{if_there};
+ghost use Rattle.gtfs_schema.specs.Values.{if_there};
 
 use crate::trips::notes::TripNotes;
 use crate::trips::row_counts::RowCounts;
-use gtfs_columns::{Code, FileName, Found, Problem, values};
 use gtfs_field::OutOfMemory;
+use gtfs_schema::{Code, FileName, Found, Problem, values};
 use gtfs_table::{File, Tables};
 
 /// Reports each row of `trips.txt` whose trip has fewer than two rows in `stop_times.txt` (W06).

@@ -1,8 +1,8 @@
 ghost use Rattle.std.specs.Prelude.{◌≡◌, ◌∷◌, ◌++◌, [], true, List, ℕ, min, IfOk, OnOk};
-ghost use Rattle.gtfs_columns.specs.IdNumbers.{number_among};
-ghost use Rattle.gtfs_columns.specs.Problems.{Problem as ProblemOf};
-ghost use Rattle.gtfs_columns.specs.steps.Found.{Reports};
-ghost use Rattle.gtfs_columns.specs.steps.Ids.{ids_of};
+ghost use Rattle.gtfs_schema.specs.IdNumbers.{number_among};
+ghost use Rattle.gtfs_schema.specs.Problems.{Problem as ProblemOf};
+ghost use Rattle.gtfs_schema.specs.steps.Found.{Reports};
+ghost use Rattle.gtfs_schema.specs.steps.Ids.{ids_of};
 ghost use Rattle.gtfs_table.specs.Tables.{Dataset};
 ghost use Rattle.gtfs_trip_rules.specs.Kept.{AllKeep};
 ghost use Rattle.gtfs_stop_times.specs.KeptLists.{HasNoHeadsign};
@@ -15,8 +15,8 @@ ghost use Rattle.gtfs_stop_times.specs.StopTimeOrder.{AreEarlier};
 use crate::trips::judge::Judge;
 use crate::trips::numbers::{small_number, trip_number};
 use crate::trips::row_counts::{RowCounts, make_room};
-use gtfs_columns::{Finder, Ids};
 use gtfs_field::OutOfMemory;
+use gtfs_schema::{Finder, Ids};
 use gtfs_stop_times::{KeptStopTimes, StopTime};
 use std::alloc::Global;
 use std::collections::BTreeMap;
@@ -42,7 +42,7 @@ pub struct TripNotes<'a> {
 
 impl<'a> Model for TripNotes<'a> {
     ghost use Rattle.std.specs.Prelude.{map};
-    ghost use Rattle.gtfs_columns.specs.steps.Ids.{ids_of};
+    ghost use Rattle.gtfs_schema.specs.steps.Ids.{ids_of};
     ghost use Rattle.gtfs_trip_rules.specs.TripCounts.{AreKept};
     ghost use Rattle.gtfs_trip_rules.specs.TripNotes.{Noted, note_of};
     ghost use Rattle.gtfs_trip_rules.specs.TripNumbers.{name_at};

@@ -1,9 +1,9 @@
 ghost use Rattle.std.specs.Prelude.{◌≡◌, ◌+◌, ◌<◌, ◌^◌, None, Some, IfOk, length};
-ghost use Rattle.gtfs_columns.specs.steps.Ids.{ids_of, number_with};
+ghost use Rattle.gtfs_schema.specs.steps.Ids.{ids_of, number_with};
 ghost use Rattle.gtfs_trip_rules.specs.TripNumbers.{number_of_trip, AreNamed, Keeps};
 
-use gtfs_columns::Ids;
 use gtfs_field::OutOfMemory;
+use gtfs_schema::Ids;
 use std::collections::BTreeMap;
 
 // The number of a trip that a row names, which this is where trips.txt has the trip.

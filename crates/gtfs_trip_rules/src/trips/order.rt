@@ -1,8 +1,8 @@
 ghost use Rattle.std.specs.Prelude.{◌≡◌, ◌+◌, ◌<◌, drop, length, option_map, pos, IfOk, OnOk};
 ghost use Rattle.gtfs_table.specs.Tables.{Dataset};
 ghost use Rattle.gtfs_table.specs.declared.file.File.TheVariants as file;
-ghost use Rattle.gtfs_columns.specs.declared.file_name.FileName.TheVariants as file_name;
-ghost use Rattle.gtfs_columns.specs.steps.Found.{Reports};
+ghost use Rattle.gtfs_schema.specs.declared.file_name.FileName.TheVariants as file_name;
+ghost use Rattle.gtfs_schema.specs.steps.Found.{Reports};
 ghost use Rattle.gtfs_trip_rules.specs.Kept.{AllKeep};
 ghost use Rattle.gtfs_trip_rules.specs.KeptOrder.{AreKeptOf};
 ghost use Rattle.gtfs_trip_rules.specs.StopTimePicks.{breaks_order};
@@ -12,8 +12,8 @@ ghost use Rattle.gtfs_trip_rules.specs.TripOrder.{is_left_later, AreInOrder};
 
 use crate::trips::judge::Judge;
 use crate::trips::notes::TripNotes;
-use gtfs_columns::{Code, FileName, Found, Problem};
 use gtfs_field::OutOfMemory;
+use gtfs_schema::{Code, FileName, Found, Problem};
 use gtfs_stop_times::{KeptStopTimes, StopTime};
 use gtfs_table::{File, Tables};
 

@@ -1,10 +1,10 @@
 ghost use Rattle.std.specs.Prelude.{◌≡◌, ◌<◌, ◌-◌, ◌^◌, ℕ, length, get_or, OnOk};
-ghost use Rattle.gtfs_columns.specs.steps.Ids.{ids_of};
+ghost use Rattle.gtfs_schema.specs.steps.Ids.{ids_of};
 ghost use Rattle.gtfs_trip_rules.specs.TripCounts.{are_few};
 ghost use Rattle.gtfs_trip_rules.specs.TripNumbers.{number_of_trip};
 
-use gtfs_columns::Finder;
 use gtfs_field::OutOfMemory;
+use gtfs_schema::Finder;
 use std::collections::BTreeMap;
 
 // How many rows of stop_times.txt name each trip, up to two.

@@ -3,10 +3,10 @@ use Rattle.std.proofs.lemmas.List.{length-set, map_more, take_all, take_more_set
 use Rattle.std.proofs.lemmas.Simd.{map-map}
 use Rattle.gtfs_table.specs.Rows.{records_in}
 use Rattle.gtfs_table.specs.Tables.{column_of}
-use Rattle.gtfs_columns.specs.declared.columns.Column.{Column}
-use Rattle.gtfs_columns.specs.declared.columns.Empty.TheVariants.{Refused}
-use Rattle.gtfs_columns.specs.declared.columns.Kind.TheVariants.{Id}
-use Rattle.gtfs_columns.specs.steps.ColumnView.{column_of as kept_column}
+use Rattle.gtfs_schema.specs.declared.columns.Column.{Column}
+use Rattle.gtfs_schema.specs.declared.columns.Empty.TheVariants.{Refused}
+use Rattle.gtfs_schema.specs.declared.columns.Kind.TheVariants.{Id}
+use Rattle.gtfs_schema.specs.steps.ColumnView.{column_of as kept_column}
 use Rattle.gtfs_reading.proofs.columns.column_indices.Goals as goal
 
 pub loop-place-preserved : goal.loop-place-preserved

@@ -1,6 +1,6 @@
 use Rattle.std.proofs.Common.{◌∙◌, [], ap, map}
 use Rattle.std.proofs.lemmas.List.{take_all}
-use Rattle.gtfs_columns.specs.Calendars.{exception_in}
+use Rattle.gtfs_schema.specs.Calendars.{exception_in}
 use Rattle.gtfs_reading.proofs.Fields.{read_next}
 use Rattle.gtfs_reading.proofs.dates.exceptions.Goals as goal
 

@@ -1,5 +1,5 @@
 use Rattle.std.proofs.Common.{◌≡◌, map, take}
-use Rattle.gtfs_columns.specs.Calendars.{exception_in}
+use Rattle.gtfs_schema.specs.Calendars.{exception_in}
 use Rattle.gtfs_reading.proofs.dates.exceptions.Given as goal
 
 -- the rows so far

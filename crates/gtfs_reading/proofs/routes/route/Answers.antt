@@ -1,8 +1,8 @@
 use Rattle.std.proofs.Common.{ap, codes, true, ◌∙◌, ◌≡◌}
 use Rattle.std.specs.Prelude.{pos, unsigned_abs, unwrap_or}
 use Rattle.gtfs_table.specs.declared.file.File.TheVariants as file
-use Rattle.gtfs_columns.specs.Columns as kind
-use Rattle.gtfs_columns.specs.Reads.{colour_or}
+use Rattle.gtfs_schema.specs.Columns as kind
+use Rattle.gtfs_schema.specs.Reads.{colour_or}
 use Rattle.gtfs_rows.specs.Reading.{route_in}
 use Rattle.gtfs_reading.specs.Named.{ids_of}
 use Rattle.gtfs_rows.specs.NamedRows.{names_agency, route_named}

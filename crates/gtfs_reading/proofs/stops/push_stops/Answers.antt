@@ -1,7 +1,7 @@
 use Rattle.std.proofs.Common.{◌∙◌, ◌<◌, ◌≤◌, ap, arith, codes, length, map}
 use Rattle.std.specs.List.{list_all}
 use Rattle.gtfs_table.specs.declared.file.File.TheVariants as file
-use Rattle.gtfs_columns.specs.steps.Ids.{rows_by_number}
+use Rattle.gtfs_schema.specs.steps.Ids.{rows_by_number}
 use Rattle.gtfs_rows.specs.Reading.{stop_in}
 use Rattle.gtfs_reading.specs.Named.{ids_of}
 use Rattle.gtfs_rows.specs.NamedRows.{names_parent, stop_named}

@@ -1,8 +1,8 @@
 use Rattle.std.proofs.Common.{[], ap, codes, true, ◌∙◌, ◌∷◌, ◌≡◌}
 use Rattle.gtfs_field.specs.declared.coord.Axis.TheVariants.{Latitude, Longitude}
 use Rattle.gtfs_table.specs.declared.file.File.TheVariants as file
-use Rattle.gtfs_columns.specs.Columns as kind
-use Rattle.gtfs_columns.specs.Reads.{amount_of}
+use Rattle.gtfs_schema.specs.Columns as kind
+use Rattle.gtfs_schema.specs.Reads.{amount_of}
 use Rattle.gtfs_rows.specs.Reading.{stop_in}
 use Rattle.gtfs_rows.specs.Views.{text_of_number}
 use Rattle.gtfs_reading.specs.Named.{ids_of}

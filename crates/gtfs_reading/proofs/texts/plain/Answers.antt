@@ -1,6 +1,6 @@
 use Rattle.std.proofs.Common.{◌≡◌, IfOk, false, rules, subst, sym}
-use Rattle.gtfs_columns.specs.Values.{has_control}
-use Rattle.gtfs_columns.proofs.PlainTexts.{plain-itself}
+use Rattle.gtfs_schema.specs.Values.{has_control}
+use Rattle.gtfs_schema.proofs.PlainTexts.{plain-itself}
 use Rattle.gtfs_reading.proofs.texts.plain.Goals as goal
 
 pub returns-then-not-has_control : goal.returns-then-not-has_control

@@ -2,7 +2,7 @@ use Rattle.std.proofs.Common.{◌≡◌, codes, map, true}
 use Rattle.std.specs.List.{list_all}
 use Rattle.gtfs_table.specs.Rows.{numbers}
 use Rattle.gtfs_table.specs.declared.file.File.TheVariants as file
-use Rattle.gtfs_columns.specs.steps.Ids.{first_rows}
+use Rattle.gtfs_schema.specs.steps.Ids.{first_rows}
 use Rattle.gtfs_rows.specs.Reading.{transfer_in}
 use Rattle.gtfs_reading.specs.Named.{ids_of}
 use Rattle.gtfs_rows.specs.TransferEnds.{names_ends, transfer_named}

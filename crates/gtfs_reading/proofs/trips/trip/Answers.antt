@@ -1,7 +1,7 @@
 use Rattle.std.proofs.Common.{[], ap, codes, refl, true, ◌∙◌, ◌∷◌, ◌≡◌}
 use Rattle.std.specs.Prelude.{unwrap_or}
 use Rattle.gtfs_table.specs.declared.file.File.TheVariants as file
-use Rattle.gtfs_columns.specs.Columns as kind
+use Rattle.gtfs_schema.specs.Columns as kind
 use Rattle.gtfs_rows.specs.Reading.{trip_in}
 use Rattle.gtfs_rows.specs.Views.{text_of_number}
 use Rattle.gtfs_reading.specs.Named.{ids_of}

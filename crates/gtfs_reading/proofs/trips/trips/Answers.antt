@@ -2,8 +2,8 @@ use Rattle.std.proofs.Common.{◌≡◌, ◌∙◌, ap, codes, map, refl, sym, t
 use Rattle.std.specs.List.{list_all}
 use Rattle.std.proofs.lemmas.Simd.{map-map}
 use Rattle.gtfs_table.specs.declared.file.File.TheVariants as file
-use Rattle.gtfs_columns.specs.Columns.{id, required}
-use Rattle.gtfs_columns.specs.steps.Ids.{first_rows, rows_by_number}
+use Rattle.gtfs_schema.specs.Columns.{id, required}
+use Rattle.gtfs_schema.specs.steps.Ids.{first_rows, rows_by_number}
 use Rattle.gtfs_rows.specs.Reading.{content_of, trip_in}
 use Rattle.gtfs_reading.specs.Named.{ids_of}
 use Rattle.gtfs_rows.specs.NamedRows.{names_route_and_service, trip_named, without_rows}

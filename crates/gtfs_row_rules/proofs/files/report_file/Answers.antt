@@ -1,8 +1,8 @@
 use Rattle.std.proofs.Common.{[], ◌∷◌}
 use Rattle.std.proofs.lemmas.Result.{on_ok_weaker}
-use Rattle.gtfs_columns.specs.declared.code.Code.TheVariants as code
+use Rattle.gtfs_schema.specs.declared.code.Code.TheVariants as code
 use Rattle.gtfs_row_rules.proofs.FileFacts.{asked, code_reported, empty_reported, missing_reported, no_code_reported, not_utf8_reported}
-use Rattle.gtfs_columns.proofs.SiteFacts.{problem_at}
+use Rattle.gtfs_schema.proofs.SiteFacts.{problem_at}
 use Rattle.gtfs_row_rules.proofs.files.report_file.Goals as goal
 
 pub returns : goal.returns

@@ -1,9 +1,9 @@
 use Rattle.std.proofs.Common.{◌∷◌, [], refl, arith}
 use Rattle.gtfs_table.specs.Reading.{kept_files}
 use Rattle.gtfs_table.specs.declared.file.File.TheVariants as file
-use Rattle.gtfs_columns.specs.declared.code.Code.TheVariants as code
-use Rattle.gtfs_columns.specs.steps.FieldCodes.{in_file_of}
-use Rattle.gtfs_columns.proofs.EachFacts.{each_done, each_more}
+use Rattle.gtfs_schema.specs.declared.code.Code.TheVariants as code
+use Rattle.gtfs_schema.specs.steps.FieldCodes.{in_file_of}
+use Rattle.gtfs_schema.proofs.EachFacts.{each_done, each_more}
 use Rattle.gtfs_row_rules.proofs.FileFacts.{files_reported}
 use Rattle.gtfs_row_rules.proofs.files.report_kept_files.Goals as goal
 

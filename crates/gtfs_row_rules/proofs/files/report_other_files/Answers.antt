@@ -1,10 +1,10 @@
 use Rattle.std.proofs.Common.{◌<◌, ℕ, List, get_or, length, sym, ap, ◌∙◌, arith}
 use Rattle.std.specs.Prelude.{bytes_eq}
 use Rattle.std.proofs.lemmas.List.Folds.{list_any_at}
-use Rattle.gtfs_columns.specs.steps.Found.{is_same}
-use Rattle.gtfs_columns.proofs.EachFacts.{each_done, each_more}
+use Rattle.gtfs_schema.specs.steps.Found.{is_same}
+use Rattle.gtfs_schema.proofs.EachFacts.{each_done, each_more}
 use Rattle.gtfs_row_rules.proofs.FileFacts.{asked, other_problem, others_reported}
-use Rattle.gtfs_columns.proofs.SiteFacts.{text_itself}
+use Rattle.gtfs_schema.proofs.SiteFacts.{text_itself}
 use Rattle.gtfs_row_rules.proofs.files.report_other_files.Goals as goal
 
 pub loop-name-preserved : goal.loop-name-preserved

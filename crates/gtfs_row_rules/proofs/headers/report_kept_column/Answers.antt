@@ -1,9 +1,9 @@
 use Rattle.std.proofs.lemmas.Result.{on_ok_weaker}
-use Rattle.gtfs_columns.specs.declared.code.Code.TheVariants as code
-use Rattle.gtfs_columns.specs.steps.ColumnView.{column_of}
+use Rattle.gtfs_schema.specs.declared.code.Code.TheVariants as code
+use Rattle.gtfs_schema.specs.steps.ColumnView.{column_of}
 use Rattle.gtfs_row_rules.proofs.FileFacts.{asked}
 use Rattle.gtfs_row_rules.proofs.HeaderFacts.{column_reported, column_twice_reported, missing_column_reported, twice_holds}
-use Rattle.gtfs_columns.proofs.SiteFacts.{problem_at}
+use Rattle.gtfs_schema.proofs.SiteFacts.{problem_at}
 use Rattle.gtfs_row_rules.proofs.headers.report_kept_column.Goals as goal
 
 pub returns : goal.returns

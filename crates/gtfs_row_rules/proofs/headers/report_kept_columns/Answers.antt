@@ -1,6 +1,6 @@
 use Rattle.std.proofs.Common.{arith}
-use Rattle.gtfs_columns.specs.steps.ColumnView.{column_of}
-use Rattle.gtfs_columns.proofs.EachFacts.{each_done, each_more}
+use Rattle.gtfs_schema.specs.steps.ColumnView.{column_of}
+use Rattle.gtfs_schema.proofs.EachFacts.{each_done, each_more}
 use Rattle.gtfs_row_rules.proofs.HeaderFacts.{columns_reported, kept_at, of_column}
 use Rattle.gtfs_row_rules.proofs.headers.report_kept_columns.Goals as goal
 

@@ -1,14 +1,14 @@
 use Rattle.std.proofs.Common.{◌≡◌, ◌<◌, [], get_or, length, sym, ap, ◌∙◌, arith}
 use Rattle.std.specs.Prelude.{◌&&◌, bytes_eq, not}
 use Rattle.std.proofs.lemmas.List.Folds.{list_any_at}
-use Rattle.gtfs_columns.specs.declared.code.Code.TheVariants as code
-use Rattle.gtfs_columns.specs.steps.Picks.{at_column}
-use Rattle.gtfs_columns.specs.Rows.{header, is_kept_column}
+use Rattle.gtfs_schema.specs.declared.code.Code.TheVariants as code
+use Rattle.gtfs_schema.specs.steps.Picks.{at_column}
+use Rattle.gtfs_schema.specs.Rows.{header, is_kept_column}
 use Rattle.gtfs_table.specs.Rows.{records_in, is_empty}
-use Rattle.gtfs_columns.proofs.EachFacts.{each_done, each_more}
+use Rattle.gtfs_schema.proofs.EachFacts.{each_done, each_more}
 use Rattle.gtfs_row_rules.proofs.FileFacts.{asked}
 use Rattle.gtfs_row_rules.proofs.HeaderFacts.{header_at, header_length, kept_name, names_reported, other_column_reported, other_holds}
-use Rattle.gtfs_columns.proofs.SiteFacts.{problem_at, text_itself}
+use Rattle.gtfs_schema.proofs.SiteFacts.{problem_at, text_itself}
 use Rattle.gtfs_row_rules.proofs.headers.report_other_columns.Goals as goal
 
 pub loop-n-preserved : goal.loop-n-preserved

@@ -1,7 +1,7 @@
 use Rattle.std.proofs.Common.{ap}
 use Rattle.gtfs_table.specs.Rows.{records_in}
 use Rattle.gtfs_table.specs.Tables.{field_under, record_at}
-use Rattle.gtfs_columns.proofs.ReferenceFacts.{read_alike}
+use Rattle.gtfs_schema.proofs.ReferenceFacts.{read_alike}
 use Rattle.gtfs_row_rules.proofs.references.unknown.Goals as goal
 
 pub returns : goal.returns

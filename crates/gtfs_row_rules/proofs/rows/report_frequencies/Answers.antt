@@ -3,7 +3,7 @@ use Rattle.std.proofs.lemmas.Result.{on_ok_weaker}
 use Rattle.std.specs.Prelude.{◌&&◌}
 use Rattle.gtfs_table.specs.Rows.{is_row, records_in}
 use Rattle.gtfs_table.specs.declared.file.File.TheVariants as file
-use Rattle.gtfs_columns.proofs.ReferenceFacts.{unknown_in}
+use Rattle.gtfs_schema.proofs.ReferenceFacts.{unknown_in}
 use Rattle.gtfs_row_rules.proofs.RowSites.{rows_reported}
 use Rattle.gtfs_row_rules.proofs.rows.report_frequencies.Goals as goal
 

@@ -1,7 +1,7 @@
 use Rattle.std.specs.Prelude.{◌||◌}
 use Rattle.std.proofs.lemmas.Result.{on_ok_weaker}
 use Rattle.gtfs_table.specs.declared.file.File.TheVariants as file
-use Rattle.gtfs_columns.proofs.ReportingFacts.{reports_four, reports_then}
+use Rattle.gtfs_schema.proofs.ReportingFacts.{reports_four, reports_then}
 use Rattle.gtfs_row_rules.specs.RowCodes.{in_rows_of}
 use Rattle.gtfs_row_rules.proofs.rows.report_rows.Goals as goal
 

@@ -2,10 +2,10 @@ use Rattle.std.proofs.Common.{[], ◌∷◌, codes, refl}
 use Rattle.std.proofs.lemmas.Result.{on_ok_weaker}
 use Rattle.gtfs_table.specs.declared.file.File.TheVariants as file
 use Rattle.gtfs_table.specs.Rows.{is_row, records_in}
-use Rattle.gtfs_columns.specs.Rows.{text_in}
-use Rattle.gtfs_columns.proofs.StopTypeFacts.{named_reported}
-use Rattle.gtfs_columns.proofs.ReferenceFacts.{unknown_in}
-use Rattle.gtfs_columns.proofs.StepFacts.{reported_as}
+use Rattle.gtfs_schema.specs.Rows.{text_in}
+use Rattle.gtfs_schema.proofs.StopTypeFacts.{named_reported}
+use Rattle.gtfs_schema.proofs.ReferenceFacts.{unknown_in}
+use Rattle.gtfs_schema.proofs.StepFacts.{reported_as}
 use Rattle.gtfs_row_rules.proofs.RowSites.{rows_reported}
 use Rattle.gtfs_row_rules.proofs.rows.report_transfers.Goals as goal
 

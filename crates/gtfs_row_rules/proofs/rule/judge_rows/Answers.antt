@@ -1,6 +1,6 @@
 use Rattle.std.proofs.Common.{[], ◌∙◌, refl}
 use Rattle.gtfs_table.proofs.RowFacts.{all_taken, numbers_more, turn}
-use Rattle.gtfs_columns.proofs.RowFacts.{reported_all, reported_more, reported_none}
+use Rattle.gtfs_schema.proofs.RowFacts.{reported_all, reported_more, reported_none}
 use Rattle.gtfs_table.specs.Rows.{numbers}
 use Rattle.gtfs_row_rules.specs.RowRules.{IsNext}
 use Rattle.gtfs_row_rules.proofs.rule.judge_rows.Goals as goal

@@ -1,9 +1,9 @@
 use Rattle.std.proofs.Common.{List, subst}
-use Rattle.gtfs_columns.specs.steps.Found.{Reports}
+use Rattle.gtfs_schema.specs.steps.Found.{Reports}
 use Rattle.gtfs_rules.specs.steps.Parts.{every}
-use Rattle.gtfs_columns.specs.Problems.{Problem}
+use Rattle.gtfs_schema.specs.Problems.{Problem}
 use Rattle.gtfs_rules.proofs.CompleteFacts.{all_picked}
-use Rattle.gtfs_columns.proofs.ReportingFacts.{reports_all}
+use Rattle.gtfs_schema.proofs.ReportingFacts.{reports_all}
 use Rattle.gtfs_rules.proofs.checks.check.Goals as goal
 
 pub new-requires-2-clause-found : goal.new-requires-2-clause-found

@@ -1,5 +1,5 @@
 use Rattle.std.proofs.lemmas.Result.{on_ok_weaker}
-use Rattle.gtfs_columns.proofs.ReportingFacts.{reports_then}
+use Rattle.gtfs_schema.proofs.ReportingFacts.{reports_then}
 use Rattle.gtfs_rules.proofs.checks.report_files_and_headers.Goals as goal
 
 pub returns : goal.returns

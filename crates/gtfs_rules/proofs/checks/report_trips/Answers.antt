@@ -1,5 +1,5 @@
 use Rattle.std.proofs.lemmas.Result.{on_ok_weaker}
-use Rattle.gtfs_columns.proofs.ReportingFacts.{reports_three}
+use Rattle.gtfs_schema.proofs.ReportingFacts.{reports_three}
 use Rattle.gtfs_rules.proofs.checks.report_trips.Goals as goal
 
 pub returns-clause-reported : goal.returns-clause-reported

@@ -3,12 +3,12 @@ use Rattle.std.specs.Prelude.{◌||◌}
 use Rattle.gtfs_table.specs.Rows.{numbers}
 use Rattle.gtfs_table.specs.declared.file.File.TheVariants as file
 use Rattle.gtfs_table.proofs.RowFacts.{all_taken, turn}
-use Rattle.gtfs_columns.specs.declared.code.Code.TheVariants as code
-use Rattle.gtfs_columns.specs.PeriodRules.{overlaps_earlier}
-use Rattle.gtfs_columns.specs.Values.{if_there}
-use Rattle.gtfs_columns.specs.steps.Picks.{at_column}
-use Rattle.gtfs_columns.proofs.RowFacts.{reported_all, reported_more, reported_none}
-use Rattle.gtfs_columns.proofs.RuleFacts.{silent_column}
+use Rattle.gtfs_schema.specs.declared.code.Code.TheVariants as code
+use Rattle.gtfs_schema.specs.PeriodRules.{overlaps_earlier}
+use Rattle.gtfs_schema.specs.Values.{if_there}
+use Rattle.gtfs_schema.specs.steps.Picks.{at_column}
+use Rattle.gtfs_schema.proofs.RowFacts.{reported_all, reported_more, reported_none}
+use Rattle.gtfs_schema.proofs.RuleFacts.{silent_column}
 use Rattle.gtfs_trip_rules.specs.CoveredTrips.{covers_trip}
 use Rattle.gtfs_trip_rules.specs.PeriodView.{meets_one, met_among, period_at, period_in}
 use Rattle.gtfs_trip_rules.specs.SpanView.{covers}

@@ -1,11 +1,11 @@
 use Rattle.std.proofs.Common.{◌∙◌, ap, arith, subst, sym}
-use Rattle.gtfs_columns.specs.steps.Ids.{ids_of}
+use Rattle.gtfs_schema.specs.steps.Ids.{ids_of}
 use Rattle.gtfs_trip_rules.specs.Kept.{AllKeep}
 use Rattle.gtfs_table.specs.declared.file.File.TheVariants as file
 use Rattle.gtfs_table.proofs.RowFacts.{all_taken, turn}
 use Rattle.gtfs_trip_rules.specs.StopTimePicks.{in_rows}
 use Rattle.gtfs_trip_rules.specs.StopTimes.{AreStopTimeColumns}
-use Rattle.gtfs_columns.proofs.RowFacts.{reported_all, reported_more, reported_none}
+use Rattle.gtfs_schema.proofs.RowFacts.{reported_all, reported_more, reported_none}
 use Rattle.gtfs_trip_rules.proofs.StopTimePasses.{rows_reported, silent_rows}
 use Rattle.gtfs_stop_times.specs.StopTimeOrder.{AreEarlier}
 use Rattle.gtfs_trip_rules.proofs.EarlierRows.{before_more, earlier_rows}

@@ -1,7 +1,7 @@
 use Rattle.std.specs.Prelude.{◌||◌}
 use Rattle.std.proofs.lemmas.Result.{on_ok_weaker}
 use Rattle.gtfs_table.specs.declared.file.File.TheVariants as file
-use Rattle.gtfs_columns.specs.steps.FieldCodes.{field_codes, in_file_of}
+use Rattle.gtfs_schema.specs.steps.FieldCodes.{field_codes, in_file_of}
 use Rattle.gtfs_trip_rules.specs.StopTimePicks.{in_names, in_times}
 use Rattle.gtfs_trip_rules.proofs.StopTimeFacts.{rows_then}
 use Rattle.gtfs_trip_rules.proofs.StopTimeFields.{fields_reported}

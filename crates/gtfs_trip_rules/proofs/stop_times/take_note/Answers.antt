@@ -3,7 +3,7 @@ use Rattle.std.specs.List.{cons_option}
 use Rattle.std.specs.Prelude.{option_and_then}
 use Rattle.std.proofs.lemmas.List.Elements.{All-push}
 use Rattle.std.proofs.lemmas.Result.{on_ok_weaker}
-use Rattle.gtfs_columns.specs.IdNumbers.{number_among}
+use Rattle.gtfs_schema.specs.IdNumbers.{number_among}
 use Rattle.gtfs_trip_rules.specs.Kept.{AllKeep, Keeps}
 use Rattle.gtfs_trip_rules.specs.KeptRow.{kept_row}
 use Rattle.gtfs_stop_times.specs.KeptTimes.{with_trip}

@@ -1,5 +1,5 @@
 use Rattle.std.proofs.Common.{map, refl}
-use Rattle.gtfs_columns.specs.Columns.{columns_of}
+use Rattle.gtfs_schema.specs.Columns.{columns_of}
 use Rattle.gtfs_rows.specs.Cells.{record_text}
 use Rattle.gtfs_rows.specs.RowCells.{held_by, week_cells, week_list}
 use Rattle.gtfs_rows.specs.Views.{service_of}

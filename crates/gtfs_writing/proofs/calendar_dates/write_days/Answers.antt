@@ -1,5 +1,5 @@
 use Rattle.std.proofs.Common.{◌∙◌, ◌∷◌, [], ap, map, refl}
-use Rattle.gtfs_columns.specs.Columns.{columns_of}
+use Rattle.gtfs_schema.specs.Columns.{columns_of}
 use Rattle.gtfs_rows.specs.Cells.{record_text}
 use Rattle.gtfs_rows.specs.RowCells.{exception_cells}
 use Rattle.gtfs_table.specs.declared.file.File.TheVariants as file

@@ -1,5 +1,5 @@
 use Rattle.std.proofs.Common.{refl, map}
-use Rattle.gtfs_columns.specs.steps.ColumnView.{column_of}
+use Rattle.gtfs_schema.specs.steps.ColumnView.{column_of}
 use Rattle.gtfs_writing.proofs.Taken.{field_done, field_step}
 use Rattle.gtfs_writing.proofs.headers.write_further_names.Goals as goal
 

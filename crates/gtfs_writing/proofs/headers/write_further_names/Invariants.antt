@@ -1,5 +1,5 @@
 use Rattle.std.proofs.Common.{◌≡◌, drop, map}
-use Rattle.gtfs_columns.specs.steps.ColumnView.{column_of}
+use Rattle.gtfs_schema.specs.steps.ColumnView.{column_of}
 use Rattle.gtfs_writing.specs.Taking.{with_fields}
 use Rattle.gtfs_writing.proofs.headers.write_further_names.Given as goal
 

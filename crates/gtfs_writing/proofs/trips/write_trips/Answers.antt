@@ -1,5 +1,5 @@
 use Rattle.std.proofs.Common.{◌∙◌, ◌∷◌, [], suc, add-one, ap, get_or, map, sym}
-use Rattle.gtfs_columns.specs.Columns.{columns_of}
+use Rattle.gtfs_schema.specs.Columns.{columns_of}
 use Rattle.gtfs_rows.specs.Cells.{record_text}
 use Rattle.gtfs_rows.specs.RowCells.{trip_cells}
 use Rattle.gtfs_rows.specs.Views.{trip_names_rows, trip_of}

@@ -1,9 +1,9 @@
 use Rattle.std.proofs.Common.{◌∙◌, ap, length, arith}
 use Rattle.std.specs.Prelude.{count_by, if◌then◌else◌, ◌&&◌, None, Some}
 use Rattle.std.proofs.lemmas.List.{length-map}
-use Rattle.gtfs_columns.specs.Codes.{is_error}
-use Rattle.gtfs_columns.specs.Problems.{passes, Problem}
-use Rattle.gtfs_columns.specs.View.{problem_of}
+use Rattle.gtfs_schema.specs.Codes.{is_error}
+use Rattle.gtfs_schema.specs.Problems.{passes, Problem}
+use Rattle.gtfs_schema.specs.View.{problem_of}
 use Rattle.gtfs_rows.specs.Reading.{content_of}
 use Rattle.gtfs_commands.specs.Words.{check_texts_of}
 use Rattle.gtfs_cli.specs.CheckLines.{problem_lines}

@@ -1,5 +1,5 @@
 use Rattle.std.proofs.Common.{◌++◌, List, ℕ, codes, refl, subst}
-use Rattle.gtfs_columns.specs.Values.{plain}
+use Rattle.gtfs_schema.specs.Values.{plain}
 use Rattle.gtfs_cli.specs.Messages.{line_of}
 use Rattle.gtfs_cli.specs.Sending.{SendsBeginning}
 use Rattle.std.specs.Io.KnownBytes.{Appends}

@@ -1,5 +1,5 @@
 use Rattle.std.proofs.Common.{map, take, None}
-use Rattle.gtfs_columns.specs.View.{problem_of}
+use Rattle.gtfs_schema.specs.View.{problem_of}
 use Rattle.gtfs_cli.specs.CheckLines.{shown_line}
 use Rattle.gtfs_cli.specs.Sending.{joined}
 use Rattle.gtfs_cli.proofs.Sent.{output, SentWhole}

@@ -1,5 +1,5 @@
 use Rattle.std.proofs.Common.{[], map}
-use Rattle.gtfs_columns.specs.View.{problem_of}
+use Rattle.gtfs_schema.specs.View.{problem_of}
 use Rattle.gtfs_cli.specs.CheckLines.{is_alike, shown_line}
 use Rattle.gtfs_cli.specs.Firsts.{firsts}
 use Rattle.gtfs_cli.proofs.AlikeProblems.{kind-line-at, kinds-left}

@@ -1,7 +1,7 @@
 use Rattle.std.proofs.Common.{◌≡◌, None, cond, map, take}
 use Rattle.std.specs.List.{list_any}
-use Rattle.gtfs_columns.specs.View.{problem_of}
-use Rattle.gtfs_columns.specs.declared.problem.Problem.{Problem as Lent}
+use Rattle.gtfs_schema.specs.View.{problem_of}
+use Rattle.gtfs_schema.specs.declared.problem.Problem.{Problem as Lent}
 use Rattle.gtfs_cli.specs.CheckLines.{count_alike, is_alike, shown_line}
 use Rattle.gtfs_cli.specs.Firsts.{firsts}
 use Rattle.gtfs_cli.specs.LentKinds.{held_for, if_any}

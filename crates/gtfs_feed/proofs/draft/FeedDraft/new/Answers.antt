@@ -1,6 +1,6 @@
 use Rattle.std.proofs.Common.{refl, subst, sym}
-use Rattle.gtfs_columns.specs.Problems.{Passes}
-use Rattle.gtfs_columns.specs.steps.FeedIds.{AreIdsOf}
+use Rattle.gtfs_schema.specs.Problems.{Passes}
+use Rattle.gtfs_schema.specs.steps.FeedIds.{AreIdsOf}
 use Rattle.gtfs_rules.specs.StopTimes.{AreStopTimes}
 use Rattle.gtfs_reading.specs.FeedRows.{AreRowsOf}
 use Rattle.gtfs_reading.specs.StopTimeLists.{AreStopTimesOf}

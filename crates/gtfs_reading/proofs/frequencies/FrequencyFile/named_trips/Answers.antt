@@ -3,7 +3,7 @@ use Rattle.std.specs.List.{All}
 use Rattle.gtfs_table.proofs.RowFacts.{all_taken, numbers_more, turn}
 use Rattle.gtfs_table.specs.Rows.{numbers, rows}
 use Rattle.gtfs_table.specs.declared.file.File.TheVariants as file
-use Rattle.gtfs_columns.specs.steps.Ids.{number_with}
+use Rattle.gtfs_schema.specs.steps.Ids.{number_with}
 use Rattle.gtfs_reading.specs.ByTrip.{is_marked, named_trip, with_mark}
 use Rattle.gtfs_reading.proofs.Fields.{field_at}
 use Rattle.gtfs_reading.proofs.NamedTrips.{as-many, marked-more}

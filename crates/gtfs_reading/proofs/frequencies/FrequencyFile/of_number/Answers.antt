@@ -4,9 +4,9 @@ use Rattle.std.specs.Ordering.{nat_cmp}
 use Rattle.gtfs_table.proofs.RowFacts.{value_is}
 use Rattle.gtfs_table.specs.Rows.{is_row, records_in}
 use Rattle.gtfs_table.specs.declared.file.File.TheVariants as file
-use Rattle.gtfs_columns.specs.Columns.{id, required}
-use Rattle.gtfs_columns.specs.Rows.{text_in}
-use Rattle.gtfs_columns.specs.steps.Ids.{rows_by_number}
+use Rattle.gtfs_schema.specs.Columns.{id, required}
+use Rattle.gtfs_schema.specs.Rows.{text_in}
+use Rattle.gtfs_schema.specs.steps.Ids.{rows_by_number}
 use Rattle.gtfs_rows.specs.Order.{by_key}
 use Rattle.gtfs_rows.specs.Reading.{frequency_in, rows_of, trip_in}
 use Rattle.gtfs_rows.specs.Rows.{Frequency}

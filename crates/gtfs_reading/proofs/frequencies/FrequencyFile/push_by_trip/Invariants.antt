@@ -1,6 +1,6 @@
 use Rattle.std.proofs.Common.{◌≡◌, get_or, length, map, take}
 use Rattle.csv.specs.Records.{Rising}
-use Rattle.gtfs_columns.specs.steps.Ids.{rows_by_number}
+use Rattle.gtfs_schema.specs.steps.Ids.{rows_by_number}
 use Rattle.gtfs_rows.specs.Reading.{trip_in}
 use Rattle.gtfs_rows.specs.Views.{frequency_of}
 use Rattle.gtfs_table.specs.Parts.{parts}

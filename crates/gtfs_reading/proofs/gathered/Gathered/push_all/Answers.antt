@@ -5,8 +5,8 @@ use Rattle.gtfs_table.specs.Rows.{is_empty, records_in}
 use Rattle.gtfs_table.specs.Tables.{record_at}
 use Rattle.gtfs_table.specs.declared.file.File.TheVariants as file
 use Rattle.gtfs_table.proofs.RowFacts.{value_is}
-use Rattle.gtfs_columns.specs.Columns as kind
-use Rattle.gtfs_columns.specs.Reads.{word_of}
+use Rattle.gtfs_schema.specs.Columns as kind
+use Rattle.gtfs_schema.specs.Reads.{word_of}
 use Rattle.gtfs_reading.specs.Gathering.{AreGathered}
 use Rattle.gtfs_rows.specs.Headsigns.{NamesHeadsign}
 use Rattle.gtfs_rules.specs.StopTimes.{SaysStopTime}

@@ -1,8 +1,8 @@
 use Rattle.std.proofs.Common.{◌≡◌, ◌∙◌, ap, sym, subst, Some, false}
 use Rattle.std.proofs.Common.{rules}
 use Rattle.std.specs.List.{slice_get}
-use Rattle.gtfs_columns.specs.Values.{has_control}
-use Rattle.gtfs_columns.proofs.PlainTexts.{plain-itself, plain-plain}
+use Rattle.gtfs_schema.specs.Values.{has_control}
+use Rattle.gtfs_schema.proofs.PlainTexts.{plain-itself, plain-plain}
 use Rattle.gtfs_rows.specs.Headsigns.{ArePlain}
 use Rattle.gtfs_reading.specs.HeadsignIndex.{with_headsign}
 use Rattle.gtfs_reading.proofs.EachOnce.{plain-headsign}

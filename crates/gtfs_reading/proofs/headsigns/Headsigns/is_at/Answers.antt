@@ -2,7 +2,7 @@ use Rattle.std.proofs.Common.{◌≡◌, ◌∙◌, ap, sym, string_bytes, map, 
 use Rattle.std.specs.Prelude.{option_map}
 use Rattle.std.specs.List.{slice_get}
 use Rattle.std.proofs.lemmas.Option.{slice_get-map}
-use Rattle.gtfs_columns.proofs.SiteFacts.{text_is}
+use Rattle.gtfs_schema.proofs.SiteFacts.{text_is}
 use Rattle.gtfs_reading.proofs.headsigns.Headsigns.is_at.Goals as goal
 
 pub returns-in-Some : goal.returns-in-Some

@@ -2,7 +2,7 @@ use Rattle.std.proofs.Common.{◌≡◌, ◌∙◌, [], Some, ap, codes, get_or,
 use Rattle.std.specs.Prelude.{◌≤ℤ◌}
 use Rattle.gtfs_table.specs.Rows.{is_row, records_in}
 use Rattle.gtfs_table.specs.declared.file.File.TheVariants as file
-use Rattle.gtfs_columns.specs.Calendars.{week_in}
+use Rattle.gtfs_schema.specs.Calendars.{week_in}
 use Rattle.gtfs_reading.specs.CalendarRows.{rows_with}
 use Rattle.gtfs_reading.proofs.CalendarFacts.{first_week, week_ordered, week_rows}
 use Rattle.gtfs_reading.proofs.Fields.{all_beside, first_beside, none_beside}

@@ -1,5 +1,5 @@
 use Rattle.std.proofs.lemmas.Result.{on_ok_weaker}
-use Rattle.gtfs_columns.proofs.AddFacts.{adds_found}
+use Rattle.gtfs_schema.proofs.AddFacts.{adds_found}
 use Rattle.gtfs_row_rules.proofs.fields.Header.report.Goals as goal
 
 pub returns : goal.returns

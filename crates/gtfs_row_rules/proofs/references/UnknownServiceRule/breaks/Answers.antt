@@ -1,5 +1,5 @@
 use Rattle.gtfs_table.specs.Tables.{field_under}
-use Rattle.gtfs_columns.specs.steps.UnknownIds.{is_unknown_in_both}
+use Rattle.gtfs_schema.specs.steps.UnknownIds.{is_unknown_in_both}
 use Rattle.gtfs_row_rules.proofs.references.UnknownServiceRule.breaks.Goals as goal
 
 pub returns-clause-same : goal.returns-clause-same

@@ -1,6 +1,6 @@
 use Rattle.std.proofs.lemmas.Result.{on_ok_weaker}
 use Rattle.gtfs_table.specs.declared.file.File.TheVariants as file
-use Rattle.gtfs_columns.proofs.AddFacts.{adds_found}
+use Rattle.gtfs_schema.proofs.AddFacts.{adds_found}
 use Rattle.gtfs_trip_rules.proofs.stop_times.fields.report.Goals as goal
 
 pub returns : goal.returns

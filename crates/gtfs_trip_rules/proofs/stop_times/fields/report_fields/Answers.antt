@@ -2,9 +2,9 @@ use Rattle.std.proofs.Common.{[], ap}
 use Rattle.std.specs.Prelude.{◌&&◌}
 use Rattle.std.proofs.lemmas.Result.{on_ok_weaker}
 use Rattle.gtfs_table.specs.declared.file.File.TheVariants as file
-use Rattle.gtfs_columns.specs.steps.FieldCodes.{is_found_at, is_in_row, length_code}
+use Rattle.gtfs_schema.specs.steps.FieldCodes.{is_found_at, is_in_row, length_code}
 use Rattle.gtfs_trip_rules.specs.StopTimes.{cells_of, fields_report}
-use Rattle.gtfs_columns.proofs.AddFacts.{adds_alike}
+use Rattle.gtfs_schema.proofs.AddFacts.{adds_alike}
 use Rattle.gtfs_trip_rules.proofs.StopTimeFields.{adds_then, all_cells, reported_cells}
 use Rattle.gtfs_trip_rules.proofs.stop_times.fields.report_fields.Goals as goal
 

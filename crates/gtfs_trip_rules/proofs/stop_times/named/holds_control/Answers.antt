@@ -1,6 +1,6 @@
 use Rattle.std.proofs.Common.{◌∙◌, ap, sym}
 use Rattle.std.specs.Prelude.{option_map}
-use Rattle.gtfs_columns.proofs.IdNumberFacts.{clear_numbered}
+use Rattle.gtfs_schema.proofs.IdNumberFacts.{clear_numbered}
 use Rattle.gtfs_trip_rules.proofs.stop_times.named.holds_control.Goals as goal
 
 -- a text that is found is one of the ids, none of which has a control character

@@ -1,16 +1,16 @@
 use Rattle.std.proofs.Common.{◌∙◌, ap, refl, ℕ, Option}
 use Rattle.std.specs.Prelude.{codes, nat_lt}
-use Rattle.gtfs_columns.specs.steps.Ids.{ids_of}
+use Rattle.gtfs_schema.specs.steps.Ids.{ids_of}
 use Rattle.gtfs_trip_rules.specs.TripCounts.{are_few, count_of}
 use Rattle.gtfs_table.specs.Tables.{field_under}
 use Rattle.gtfs_table.specs.declared.file.File.TheVariants as file
 use Rattle.gtfs_table.proofs.RowFacts.{all_taken, turn}
-use Rattle.gtfs_columns.specs.declared.code.Code.TheVariants as code
-use Rattle.gtfs_columns.specs.steps.Picks.{at_column}
-use Rattle.gtfs_columns.specs.TripRules.{has_few_rows}
-use Rattle.gtfs_columns.proofs.RowFacts.{reported_all, reported_more, reported_none}
-use Rattle.gtfs_columns.proofs.RuleFacts.{row_reported, silent_column}
-use Rattle.gtfs_columns.proofs.StepFacts.{reports_rule}
+use Rattle.gtfs_schema.specs.declared.code.Code.TheVariants as code
+use Rattle.gtfs_schema.specs.steps.Picks.{at_column}
+use Rattle.gtfs_schema.specs.TripRules.{has_few_rows}
+use Rattle.gtfs_schema.proofs.RowFacts.{reported_all, reported_more, reported_none}
+use Rattle.gtfs_schema.proofs.RuleFacts.{row_reported, silent_column}
+use Rattle.gtfs_schema.proofs.StepFacts.{reports_rule}
 use Rattle.gtfs_trip_rules.specs.RowsById.{text_under}
 use Rattle.gtfs_trip_rules.specs.TripNotes.{times_noted}
 use Rattle.gtfs_trip_rules.proofs.TripCountFacts.{few_of_two, few_rows}

@@ -1,14 +1,14 @@
 use Rattle.std.proofs.Common.{◌≡◌, ℕ, List}
 use Rattle.std.specs.Prelude.{codes, nat_lt}
-use Rattle.gtfs_columns.specs.steps.Ids.{ids_of}
+use Rattle.gtfs_schema.specs.steps.Ids.{ids_of}
 use Rattle.gtfs_trip_rules.specs.TripCounts.{are_few}
 use Rattle.gtfs_trip_rules.specs.TripNotes.{times_noted}
 use Rattle.gtfs_table.specs.Rows.{numbers}
 use Rattle.gtfs_table.specs.declared.file.File.TheVariants as file
-use Rattle.gtfs_columns.specs.declared.code.Code.TheVariants as code
-use Rattle.gtfs_columns.specs.steps.Found.{Reports}
-use Rattle.gtfs_columns.specs.steps.Picks.{at_column}
-use Rattle.gtfs_columns.proofs.RowFacts.{at_rows}
+use Rattle.gtfs_schema.specs.declared.code.Code.TheVariants as code
+use Rattle.gtfs_schema.specs.steps.Found.{Reports}
+use Rattle.gtfs_schema.specs.steps.Picks.{at_column}
+use Rattle.gtfs_schema.proofs.RowFacts.{at_rows}
 use Rattle.gtfs_trip_rules.proofs.trips.counts.report_counts.Given as goal
 
 -- the rows so far, and what is counted

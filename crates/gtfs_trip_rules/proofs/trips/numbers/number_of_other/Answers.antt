@@ -1,7 +1,7 @@
 use Rattle.std.proofs.Common.{◌≡◌, ◌∙◌, ◌+◌, arith, ap, length, sym}
 use Rattle.std.specs.Option.{option_or}
 use Rattle.std.proofs.lemmas.Map.Text.{btree_map_updates_str}
-use Rattle.gtfs_columns.specs.steps.Ids.{ids_of, number_with}
+use Rattle.gtfs_schema.specs.steps.Ids.{ids_of, number_with}
 use Rattle.gtfs_trip_rules.proofs.TripNumberFacts.{now_named, number_stays, still_named, unchanged}
 use Rattle.gtfs_trip_rules.proofs.trips.numbers.number_of_other.Goals as goal
 

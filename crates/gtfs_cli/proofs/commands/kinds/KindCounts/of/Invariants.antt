@@ -1,7 +1,7 @@
 use Rattle.std.proofs.Common.{◌≡◌, map, take}
 use Rattle.std.specs.BTreeMap.{get}
-use Rattle.gtfs_columns.specs.View.{problem_of}
-use Rattle.gtfs_columns.specs.declared.problem.Problem.{Problem as Lent}
+use Rattle.gtfs_schema.specs.View.{problem_of}
+use Rattle.gtfs_schema.specs.declared.problem.Problem.{Problem as Lent}
 use Rattle.gtfs_cli.specs.CheckLines.{count_alike}
 use Rattle.gtfs_cli.specs.LentKinds.{if_any, lent_cmp}
 use Rattle.gtfs_cli.proofs.commands.kinds.KindCounts.of.Given as goal

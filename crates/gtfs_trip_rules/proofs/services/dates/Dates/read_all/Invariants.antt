@@ -1,5 +1,5 @@
 use Rattle.std.proofs.Common.{◌≡◌, map, take, Some}
-use Rattle.gtfs_columns.specs.KeyRules.{all_there}
+use Rattle.gtfs_schema.specs.KeyRules.{all_there}
 use Rattle.gtfs_trip_rules.specs.ServiceFields.{exception_in}
 use Rattle.gtfs_trip_rules.proofs.services.dates.Dates.read_all.Given as goal
 

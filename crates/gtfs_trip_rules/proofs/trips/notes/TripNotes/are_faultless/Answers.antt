@@ -1,5 +1,5 @@
 use Rattle.std.proofs.Common.{◌∙◌, ap, sym}
-use Rattle.gtfs_columns.specs.steps.Ids.{ids_of}
+use Rattle.gtfs_schema.specs.steps.Ids.{ids_of}
 use Rattle.gtfs_trip_rules.proofs.TogetherRows.{noted_faultless}
 use Rattle.gtfs_trip_rules.proofs.trips.notes.TripNotes.are_faultless.Goals as goal
 

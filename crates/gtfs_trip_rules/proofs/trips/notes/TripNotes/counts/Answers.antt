@@ -1,6 +1,6 @@
 use Rattle.std.proofs.Common.{◌∙◌, ap, sym}
 use Rattle.std.specs.Prelude.{min}
-use Rattle.gtfs_columns.specs.steps.Ids.{ids_of}
+use Rattle.gtfs_schema.specs.steps.Ids.{ids_of}
 use Rattle.gtfs_trip_rules.specs.TripCounts.{count_of}
 use Rattle.gtfs_trip_rules.specs.TripNotes.{times_noted}
 use Rattle.gtfs_trip_rules.proofs.TripCountFacts.{trip_counted}

@@ -1,7 +1,7 @@
 use Rattle.std.proofs.Common.{◌≡◌, sym}
 use Rattle.std.specs.List.Sorted.{IsSorted}
 use Rattle.std.proofs.lemmas.Result.{IfOk-weaker}
-use Rattle.gtfs_columns.specs.steps.Ids.{ids_of}
+use Rattle.gtfs_schema.specs.steps.Ids.{ids_of}
 use Rattle.gtfs_stop_times.specs.KeptStretches.{AreRising}
 use Rattle.gtfs_stop_times.specs.KeptTimes.{is_placed}
 use Rattle.gtfs_stop_times.specs.StopTimeOrder.{kept_cmp}

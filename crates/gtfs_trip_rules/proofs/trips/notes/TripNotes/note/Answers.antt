@@ -2,8 +2,8 @@ use Rattle.std.proofs.Common.{◌≡◌, ◌≤◌, ◌∙◌, ◌++◌, ◌∷�
 use Rattle.std.specs.Prelude.{◌&&◌}
 use Rattle.std.proofs.lemmas.Bool.{eqb-true as same_number}
 use Rattle.std.proofs.lemmas.List.{map-append, reverse-append}
-use Rattle.gtfs_columns.specs.IdNumbers.{number_among}
-use Rattle.gtfs_columns.specs.steps.Ids.{ids_of, number_with}
+use Rattle.gtfs_schema.specs.IdNumbers.{number_among}
+use Rattle.gtfs_schema.specs.steps.Ids.{ids_of, number_with}
 use Rattle.gtfs_stop_times.specs.KeptLists.{HasNoHeadsign}
 use Rattle.gtfs_stop_times.specs.KeptTimes.{with_trip, is_placed}
 use Rattle.gtfs_trip_rules.specs.TripJudged.{Judges}

@@ -1,5 +1,5 @@
 use Rattle.std.proofs.Common.{◌≡◌, ℕ, List, refl, None, arith}
-use Rattle.gtfs_columns.specs.steps.Ids.{ids_of}
+use Rattle.gtfs_schema.specs.steps.Ids.{ids_of}
 use Rattle.gtfs_trip_rules.specs.TripNumbers.{other_number}
 use Rattle.gtfs_trip_rules.proofs.TripNumberFacts.{first_named}
 use Rattle.gtfs_trip_rules.proofs.trips.notes.TripNotes.with_room.Goals as goal

@@ -1,5 +1,0 @@
-use Rattle.std.proofs.Common.{◌∷◌, []}
-use Rattle.gtfs_columns.proofs.columns.stops_columns.Goals as goal
-
-pub returns : goal.returns
-returns c = λ i. c.required.ensures i ∷ c.optional.ensures i ∷ c.optional-2.ensures i ∷ c.optional-3.ensures i ∷ c.optional-4.ensures i ∷ c.optional-5.ensures i ∷ c.optional-6.ensures i ∷ c.optional-7.ensures i ∷ c.defaulting.ensures i ∷ c.optional-8.ensures i ∷ c.defaulting-2.ensures i ∷ c.optional-9.ensures i ∷ []

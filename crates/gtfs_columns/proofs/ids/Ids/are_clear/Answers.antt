@@ -1,7 +1,0 @@
-use Rattle.std.proofs.Common.{◌∙◌, ap}
-use Rattle.gtfs_columns.specs.steps.Ids.{are_clear}
-use Rattle.gtfs_columns.proofs.IdNumberFacts.{clear_listed}
-use Rattle.gtfs_columns.proofs.ids.Ids.are_clear.Goals as goal
-
-pub returns : goal.returns
-returns c = c.self.invariant.clear ∙ clear_listed _ c.self.inside.rows.items c.self.invariant.index ∙ ap are_clear c.self.view_is

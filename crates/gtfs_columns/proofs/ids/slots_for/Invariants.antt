@@ -1,7 +1,0 @@
-use Rattle.std.specs.List.{All}
-use Rattle.gtfs_columns.specs.steps.Ids.{Answers, FirstRows, IsIdIndex}
-use Rattle.gtfs_columns.proofs.ids.slots_for.Given as goal
-
--- what the slots say so far is true
-abbrev pub invariant-loop-number : goal.invariant-loop-number
-invariant-loop-number l = (i : FirstRows) → IsIdIndex i l.rows → All (Answers i) l.slots.items

@@ -1,7 +1,0 @@
-use Rattle.std.proofs.Common.{rules, pos, refl}
-use Rattle.gtfs_columns.specs.Columns as kind
-use Rattle.gtfs_columns.proofs.ReadFacts.{number_fails}
-use Rattle.gtfs_columns.proofs.values.clock.Goals as goal
-
-pub returns-clause-whole : goal.returns-clause-whole
-returns-clause-whole c = λ e. number_fails kind.time refl e c.args.text.now pos _ (search rules)

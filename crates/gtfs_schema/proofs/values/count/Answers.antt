@@ -1,0 +1,7 @@
+use Rattle.std.proofs.Common.{rules, pos, refl}
+use Rattle.gtfs_schema.specs.Columns as kind
+use Rattle.gtfs_schema.proofs.ReadFacts.{number_fails}
+use Rattle.gtfs_schema.proofs.values.count.Goals as goal
+
+pub returns-clause-whole : goal.returns-clause-whole
+returns-clause-whole c = λ e. number_fails kind.count refl e c.args.text.now pos _ (search rules)
