@@ -30,7 +30,8 @@ use Rattle.gtfs_runs.specs.declared.stop_index.DepartureRow.{DepartureRow}
 use Rattle.gtfs_runs.specs.declared.stop_index.indexed_trips.IndexedTrip.{IndexedTrip}
 use Rattle.gtfs_runs.specs.declared.stop_lanes.listed.Listed.{Listed}
 use Rattle.gtfs_runs.specs.steps.Courses.{IsListed, stopping_of}
-use Rattle.gtfs_runs.specs.steps.Groups.{AreOfTrips, Group, GroupedTripValue, below, group_cmp, group_of, lower_trips, stops_in, trip_group}
+use Rattle.gtfs_runs.specs.steps.Groups.{AreOfTrips, Group, GroupedTripValue, below, group_cmp, group_of, lower_trips, trip_group}
+use Rattle.gtfs_stop_times.specs.StopLists.{stops_in}
 use Rattle.gtfs_runs.specs.steps.Numbers.{AreNumbered}
 use Rattle.gtfs_runs.specs.steps.Passings.{first_left}
 use Rattle.gtfs_runs.specs.steps.Ranked.{AreIndexedTrips, IsIndexedTrip, IsOfRank, IsRanked, group_number}

@@ -31,7 +31,7 @@ use Rattle.gtfs_runs.specs.declared.event.Event.{Event}
 use Rattle.gtfs_runs.specs.declared.stop_index.DepartureRow.{DepartureRow}
 use Rattle.gtfs_runs.specs.declared.stop_lanes.passing.Passing.{Passing}
 use Rattle.gtfs_runs.specs.steps.Courses.{Stopping}
-use Rattle.gtfs_runs.specs.steps.Groups.{stops_in}
+use Rattle.gtfs_stop_times.specs.StopLists.{stops_in}
 use Rattle.gtfs_runs.specs.steps.Finds.{AreTold, stopping_at, times_passed_in}
 use Rattle.gtfs_runs.specs.steps.Passings.{ArePassings, first_left, leaves, passing_at, passings_of}
 use Rattle.gtfs_runs.specs.steps.Places.{AreOfPlace, ArePlaceRows, IsStopTime, departs_in_place, first_trip, number_cmp, passing_of}

@@ -31,7 +31,8 @@ use Rattle.gtfs_runs.specs.declared.stop_lanes.listed.Listed.{Listed}
 use Rattle.gtfs_runs.specs.declared.stop_lanes.passing.Passing.{Passing}
 use Rattle.gtfs_runs.specs.steps.Courses.{IsCourse, IsListed, Stopping, course_of, stopping_events, stopping_of}
 use Rattle.gtfs_runs.specs.steps.Finds.{AreFound, AreTold, stopping_at, times_passed, times_passed_in, times_told}
-use Rattle.gtfs_runs.specs.steps.Groups.{stops_in, trip_group}
+use Rattle.gtfs_runs.specs.steps.Groups.{trip_group}
+use Rattle.gtfs_stop_times.specs.StopLists.{stops_in}
 use Rattle.gtfs_runs.specs.steps.Noted.{IsNoted}
 use Rattle.gtfs_runs.specs.steps.Passings.{ArePassings, first_left, passings_of}
 use Rattle.gtfs_runs.specs.steps.Places.{AreOfPlace, ArePlaceRows, IsStopTime, departs_in_place, first_trip, number_cmp}

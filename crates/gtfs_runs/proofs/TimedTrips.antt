@@ -14,7 +14,7 @@ use Rattle.gtfs_times.proofs.TimedContent.{by_trip}
 use Rattle.gtfs_times.specs.TimedRows.{filled_stop_time, filled_stop_times, is_interpolated, lacks_time, position_time, timed_parts, timed_stop_times}
 use Rattle.gtfs_times.specs.declared.times.Times.{Times}
 use Rattle.gtfs_times.specs.declared.times.Times.TheVariants as times
-use Rattle.gtfs_runs.specs.steps.Groups.{stops_in}
+use Rattle.gtfs_stop_times.specs.StopLists.{stops_in}
 use Rattle.gtfs_runs.specs.steps.Passings.{AreTripTimes, first_left}
 use Rattle.gtfs_runs.proofs.TripTimes.{left_within, starts_before}
 

@@ -32,7 +32,7 @@ use Rattle.gtfs_rows.specs.Runs.{allows_boarding, is_departure_row, is_not_last,
 use Rattle.gtfs_runs.specs.declared.event.Event.{Event}
 use Rattle.gtfs_runs.specs.declared.stop_lanes.passing.Passing.{Passing}
 use Rattle.gtfs_runs.specs.steps.Courses.{IsCourse, IsListed, Stopping, course_of, stopping_events}
-use Rattle.gtfs_runs.specs.steps.Groups.{stops_in}
+use Rattle.gtfs_stop_times.specs.StopLists.{stops_in}
 use Rattle.gtfs_runs.specs.steps.Finds.{AreTold, stopping_at, times_passed_in}
 use Rattle.gtfs_runs.specs.steps.Passings.{first_left, leaves, passing_at, passing_event, passings_of}
 use Rattle.gtfs_runs.proofs.ContentEvents.{event_is, is_at}

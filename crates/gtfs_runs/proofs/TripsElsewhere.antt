@@ -23,7 +23,7 @@ use Rattle.gtfs_times.specs.declared.times.Times.{Times}
 use Rattle.gtfs_runs.specs.Counts.{tally}
 use Rattle.gtfs_runs.specs.StopIndex.{is_this_row}
 use Rattle.gtfs_runs.specs.declared.stop_index.DepartureRow.{DepartureRow}
-use Rattle.gtfs_runs.specs.steps.Groups.{stops_in}
+use Rattle.gtfs_stop_times.specs.StopLists.{stops_in}
 use Rattle.gtfs_runs.specs.steps.Noted.{noted_row}
 use Rattle.gtfs_runs.specs.steps.Passings.{leaves}
 use Rattle.gtfs_runs.specs.steps.Places.{departs_in_place}

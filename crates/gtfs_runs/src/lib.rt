@@ -37,7 +37,6 @@ mod step_lane;
 mod steps;
 mod stop_index;
 mod stop_lanes;
-mod stop_lists;
 mod trips;
 
 pub use event::Event;

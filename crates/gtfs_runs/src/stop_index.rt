@@ -18,7 +18,7 @@ pub(crate) use crate::stop_index::at_stops::{row_at, small_number};
 pub(crate) use crate::stop_index::children::Child;
 use crate::stop_index::children::Children;
 pub(crate) use crate::stop_index::indexed_trips::{IndexedTrip, trip_at};
-use crate::stop_index::indexed_trips::{grouped_trips, indexed_trips, stops_of};
+use crate::stop_index::indexed_trips::{grouped_trips, indexed_trips};
 use crate::stop_index::rows_by_stop::RowsByStop;
 use gtfs_feed::Feed;
 use gtfs_field::OutOfMemory;
@@ -121,9 +121,9 @@ impl<'a> StopIndex<'a> {
     /// The index of a feed under a choice of times. Under [`Times::Interpolated`] stop times whose
     /// times are filled are departure rows too.
     ///
-    /// It looks at each stop time of the feed to see how much room each stop needs, sorts the trips
-    /// by service, stops and start, and then looks at the stop times again for the departure rows,
-    /// trip after trip in that order. Until the end it keeps four bytes more for each stop time. A
+    /// It goes through the stop times of the feed as they stand in memory to see how much room each
+    /// stop needs, sorts the trips by service, stops and start, and then looks at the stop times
+    /// again for the departure rows, trip after trip in that order. Until the end it keeps four bytes more for each stop time. A
     /// trip with times to fill is copied for as long as its departure rows are looked for.
     ///
     /// GTFS Schedule Reference, `stop_times.txt`, and `parent_station` of `stops.txt`.
@@ -135,8 +135,8 @@ impl<'a> StopIndex<'a> {
         ensures feed { IfOk result (λ index. index.feed ≡ feed.now) }
         ensures times { IfOk result (λ index. index.times ≡ times) }
     {
-        let (lists, starts) = stops_of(alloc, feed)?;
-        let trips = by_group(grouped_trips(alloc, feed, &lists, &starts)?);
+        let lists = feed.parts().stop_times.stop_lists(alloc)?;
+        let trips = by_group(grouped_trips(alloc, feed, &lists)?);
         let rows = RowsByStop::build(alloc, feed, times, lists.all(), &trips)?;
         let children = Children::build(alloc, feed)?;
         let trips = indexed_trips(alloc, feed, &trips)?;

@@ -10,3 +10,4 @@ mod StretchFacts
 mod TripRanks
 mod RowNumberFacts
 mod JoinedLists
+mod StopListFacts

@@ -9,4 +9,5 @@ pub mod Optional
 pub mod RankedRows
 pub mod Renumbered
 pub mod RowNotes
+pub mod StopLists
 pub mod StopTimeOrder

@@ -3,11 +3,14 @@ ghost use Rattle.std.specs.List.{list_any};
 ghost use Rattle.csv.specs.Records.{Rising};
 ghost use Rattle.gtfs_stop_times.specs.ByTrip.{AreWithin, in_turn, is_at, rows_in};
 ghost use Rattle.gtfs_stop_times.specs.Renumbered.{renumbered_row};
+ghost use Rattle.gtfs_stop_times.specs.StopLists.{stops_in};
 ghost use Rattle.gtfs_table.specs.Parts.{parts};
 
 use crate::marks::{marked, marked_in_ranges, marked_in_turn};
 use crate::optional::OptionalHeadsign;
+use crate::ranges::ranges_in_turn;
 use crate::renumber::renumber;
+use crate::stop_lists::{StopLists, stops_of};
 use crate::stop_row::StopRow;
 use crate::stretches::stretch;
 use gtfs_field::{List, OutOfMemory};
@@ -127,6 +130,32 @@ impl StopTimesByTrip {
             Places::Anywhere(more, ranges, _) => {
                 let marks = marked(alloc, &self.rows, more, stops)?;
                 marked_in_ranges(alloc, &marks, ranges)
+            }
+        }
+    }
+
+    /// The stops of the stop times of each trip, by the numbers of trips. The starts rise, from 0
+    /// on, and none lies past the last stop time.
+    ///
+    /// Like [`StopTimesByTrip::trips_at`] it goes through the stop times as they stand in memory.
+    ///
+    /// # Errors
+    /// `OutOfMemory` where memory is refused, and where the number of a stop is above
+    /// 4,294,967,295.
+    pub fn stop_lists(&self, alloc: Global) -> Result<StopLists, OutOfMemory>
+        requires { Rising 0 self.now.starts (length self.now.rows) }
+        ensures { IfOk result (λ lists. lists
+            ≡ map stops_in (parts self.now.starts self.now.rows)) }
+    {
+        match &self.places {
+            Places::InTurn(starts) => {
+                let stops = stops_of(alloc, &self.rows, &[])?;
+                let ranges = ranges_in_turn(alloc, starts, stops.len())?;
+                Ok(StopLists::at_ranges(stops, ranges))
+            }
+            Places::Anywhere(more, ranges, _) => {
+                let stops = stops_of(alloc, &self.rows, more)?;
+                Ok(StopLists::at_ranges(stops, Vec::from_slice(alloc, ranges)?))
             }
         }
     }

@@ -12,16 +12,17 @@
 //!   [`KeptStopTimes`] are such rows as a check keeps them, until a feed gives them the numbers of
 //!   their headsigns ([`HeadsignedStopTimes`]).
 //! - [`StopTimesByTrip`] are the stop times of all trips, which may stay in the order of the file;
-//!   [`stretch`] finds the items of one trip in a list of those of all trips. A [`TripOf`] is a
-//!   trip of one of two feeds, whose stop times are joined.
+//!   [`stretch`] finds the items of one trip in a list of those of all trips. [`StopLists`] are the
+//!   stops of trips alone. A [`TripOf`] is a trip of one of two feeds, whose stop times are joined.
 //! - [`room_for`] tells for how many items a list of millions asks.
 //!
 //! The numbers of choices are in `specs/Choices.antt`; a value that may be missing, and its four
 //! bytes, in `specs/Optional.antt`; when a stop time is reached and left in `specs/KeptTimes.antt`,
 //! the order of stop times in `specs/StopTimeOrder.antt`, how they are kept in
 //! `specs/KeptLists.antt`, and what they are given in `specs/Headsigned.antt`; the stop times of
-//! all trips, as they are seen and where they stand, in `specs/ByTrip.antt`, those of two feeds in
-//! `specs/Joined.antt`, and what other numbers make of a stop time in `specs/Renumbered.antt`.
+//! all trips, as they are seen and where they stand, in `specs/ByTrip.antt`, their stops in
+//! `specs/StopLists.antt`, those of two feeds in `specs/Joined.antt`, and what other numbers make of
+//! a stop time in `specs/Renumbered.antt`.
 #![tactic(auto)]
 
 mod by_trip;
@@ -39,6 +40,7 @@ mod renumber;
 mod room;
 mod row_note;
 mod row_numbers;
+mod stop_lists;
 mod stop_row;
 mod stop_time;
 mod stretches;
@@ -52,6 +54,7 @@ pub use kept::KeptStopTimes;
 pub use numbers::{HeadsignNo, StopNo};
 pub use optional::{OptionalClock, OptionalHeadsign};
 pub use room::room_for;
+pub use stop_lists::StopLists;
 pub use stop_row::StopRow;
 pub use stop_time::{StopTime, Times};
 pub use stretches::stretch;

@@ -1,7 +1,7 @@
-ghost use Rattle.std.specs.Prelude.{◌≡◌, ◌+◌, ◌-◌, ◌<◌, ◌≤◌, ℕ, drop, IfOk, IfSome, length, map, slice_index_or, take};
+ghost use Rattle.std.specs.Prelude.{◌≡◌, ◌+◌, ◌-◌, ◌<◌, ◌≤◌, ℕ, List, drop, IfOk, IfSome, length, map, slice_index_or, take};
 ghost use Rattle.std.specs.List.{All};
 ghost use Rattle.csv.specs.Records.{Rising};
-ghost use Rattle.gtfs_stop_times.specs.ByTrip.{AreWithin};
+ghost use Rattle.gtfs_stop_times.specs.ByTrip.{AreWithin, items_in};
 ghost use Rattle.gtfs_table.specs.Parts.{parts};
 ghost use Rattle.gtfs_stop_times.specs.Headsigned.{numbers_in, rows_at};
 
@@ -61,6 +61,29 @@ fn range(order: &RowNumbers, start: usize, end: usize) -> Option<RowRange>
         start: first as usize,
         end: next as usize,
     })
+}
+
+// Where those of each trip lie in a list of this length in which one trip follows the other, from
+// these starts on.
+pub(crate) fn ranges_in_turn(
+    alloc: Global,
+    starts: &[usize],
+    len: usize,
+) -> Result<Vec<RowRange>, OutOfMemory>
+    requires { Rising 0 starts.now len }
+    ensures within { IfOk result (λ ranges. AreWithin len ranges.items) }
+    ensures parts { IfOk result (λ ranges. (xs : List ℕ) → length xs ≡ len
+        → map (items_in xs) ranges.items ≡ parts starts.now xs) }
+{
+    let mut ranges = Vec::with_capacity(alloc, starts.len())?;
+    for trip in 0..starts.len() {
+        let end = end_of(starts, trip, len);
+        ranges.push(RowRange {
+            start: starts[trip],
+            end,
+        })?;
+    }
+    Ok(ranges)
 }
 
 // The rows of these numbers, in their order.

@@ -7,7 +7,7 @@ use Rattle.std.specs.declared.cmp.Ordering.{Ordering}
 use Rattle.gtfs_rows.specs.Trips.{stop_rows_by_trip}
 use Rattle.gtfs_rows.specs.declared.numbers.TripNo.{TripNo}
 use Rattle.gtfs_rows.specs.declared.parts.Parts.{Parts}
-use Rattle.gtfs_stop_times.specs.declared.stop_row.StopRow.{StopRow}
+use Rattle.gtfs_stop_times.specs.StopLists.{stops_in}
 use Rattle.gtfs_runs.specs.Counts.{tally}
 use Rattle.gtfs_runs.specs.steps.Passings.{first_left}
 
@@ -22,9 +22,6 @@ list_cmp = slice_cmp nat_cmp
 -- by service, and then by stops
 abbrev pub group_cmp : Group → Group → Ordering
 group_cmp = then_cmp (on (λ g. g.0) nat_cmp) (on (λ g. g.1) list_cmp)
-
-abbrev pub stops_in : List StopRow → List ℕ
-stops_in rows = map (λ row. row.stop_id.0) rows
 
 -- that of the trip of this number
 abbrev pub trip_group : Parts → ℕ → Group

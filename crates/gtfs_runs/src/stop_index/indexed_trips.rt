@@ -3,17 +3,18 @@ ghost use Rattle.std.specs.List.Sorted.{IsSorted};
 ghost use Rattle.gtfs_rows.specs.Trips.{frequencies_by_trip, stop_rows_by_trip};
 ghost use Rattle.gtfs_rows.specs.declared.frequency.Frequency.{Frequency};
 ghost use Rattle.gtfs_runs.specs.declared.stop_index.indexed_trips.IndexedTrip.{IndexedTrip as IndexedValue};
-ghost use Rattle.gtfs_runs.specs.steps.Groups.{AreOfTrips, GroupedTripValue, below, group_cmp, group_of, stops_in, trip_group};
+ghost use Rattle.gtfs_runs.specs.steps.Groups.{AreOfTrips, GroupedTripValue, below, group_cmp, group_of, trip_group};
+ghost use Rattle.gtfs_stop_times.specs.StopLists.{stops_in};
 ghost use Rattle.gtfs_runs.specs.steps.Passings.{first_left};
 ghost use Rattle.gtfs_runs.specs.steps.Ranked.{AreIndexedTrips};
 
 use crate::departure_row::trip_start;
 use crate::grouped_trip::{GroupedTrip, group_order};
 use crate::stop_index::at_stops::small_number;
-use crate::stop_lists::StopLists;
 use gtfs_feed::Feed;
 use gtfs_field::OutOfMemory;
 use gtfs_rows::TripNo;
+use gtfs_stop_times::StopLists;
 use std::alloc::Global;
 
 // What is kept of a trip, so that its rows need not look at it.
@@ -57,40 +58,21 @@ pub(crate) fn trip_at(trips: &[IndexedTrip], rank: u32) -> IndexedTrip
     trips[rank as usize]
 }
 
-// The stops of the trips of a feed, by their numbers, and when they leave the first.
-pub(crate) fn stops_of(alloc: Global, feed: &Feed) -> Result<(StopLists, Vec<u32>), OutOfMemory>
-    ensures stops { IfOk result (λ both. both.0 ≡ map stops_in (stop_rows_by_trip feed.now)) }
-    ensures starts { IfOk result (λ both.
-        both.1.items ≡ map first_left (stop_rows_by_trip feed.now)) }
-{
-    feed.soundness();
-    let count = feed.trip_count();
-    let mut lists = StopLists::with_room(alloc, count, feed.parts().stop_times.len())?;
-    let mut starts = Vec::with_capacity(alloc, count)?;
-    for number in 0..count {
-        let rows = feed.trip_rows(TripNo(number));
-        lists.push(rows)?;
-        starts.push(trip_start(rows))?;
-    }
-    Ok((lists, starts))
-}
-
-// The trips of a feed by their groups. They have these stops, and leave the first at these seconds.
+// The trips of a feed, which have these stops, by their groups.
 pub(crate) fn grouped_trips<'a>(
     alloc: Global,
     feed: &Feed,
     lists: &'a StopLists,
-    starts: &[u32],
 ) -> Result<Vec<GroupedTrip<'a>>, OutOfMemory>
-    requires stops { lists.now ≡ map stops_in (stop_rows_by_trip feed.now) }
-    requires starts { starts.now ≡ map first_left (stop_rows_by_trip feed.now) }
+    requires { lists.now ≡ map stops_in (stop_rows_by_trip feed.now) }
     ensures { IfOk result (λ trips. AreOfTrips feed.now (length feed.now.trips) trips.items) }
 {
     feed.soundness();
     let mut trips = Vec::with_capacity(alloc, feed.trip_count())?;
     for number in 0..feed.trip_count() {
-        let stops = lists.get(number);
-        trips.push(GroupedTrip::of(feed, TripNo(number), starts[number], stops)?)?;
+        let trip = TripNo(number);
+        let start = trip_start(feed.trip_rows(trip));
+        trips.push(GroupedTrip::of(feed, trip, start, lists.get(number))?)?;
     }
     Ok(trips)
 }

@@ -11,10 +11,10 @@ use crate::departure_row::trip_start;
 use crate::grouped_trip::{GroupedTrip, by_group, group_order};
 use crate::stop_index::small_number;
 use crate::stop_lanes::listed::Listed;
-use crate::stop_lists::StopLists;
 use gtfs_feed::Feed;
 use gtfs_field::OutOfMemory;
 use gtfs_rows::TripNo;
+use gtfs_stop_times::StopLists;
 use std::alloc::Global;
 
 // Numbers the groups of trips: how many of the trips that pass the place have lower ones.

@@ -7,6 +7,9 @@ use Rattle.gtfs_runs.proofs.GroupFacts.{all_ranked, trips_moved}
 use Rattle.gtfs_runs.proofs.Numbers.{by_groups}
 use Rattle.gtfs_runs.proofs.stop_index.StopIndex.build.Goals as goal
 
+pub stop_lists-requires : goal.stop_lists-requires
+stop_lists-requires c = c.parts.ensures.sound.stop_rows.1.0
+
 pub build-requires-clause-trips : goal.build-requires-clause-trips
 build-requires-clause-trips c =
     let p = c.args.feed.now in

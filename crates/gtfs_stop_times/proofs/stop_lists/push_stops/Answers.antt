@@ -1,7 +1,7 @@
 use Rattle.std.proofs.Common.{sym}
 use Rattle.std.proofs.lemmas.List.{append-nil}
-use Rattle.gtfs_runs.proofs.Pushes.{appended-all, appended-more}
-use Rattle.gtfs_runs.proofs.stop_lists.push_stops.Goals as goal
+use Rattle.gtfs_stop_times.proofs.Pushes.{appended-all, appended-more}
+use Rattle.gtfs_stop_times.proofs.stop_lists.push_stops.Goals as goal
 
 pub loop-row-init : goal.loop-row-init
 loop-row-init c = sym (append-nil c.args.stops.now.items)

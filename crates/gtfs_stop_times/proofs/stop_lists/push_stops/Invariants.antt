@@ -1,6 +1,6 @@
 use Rattle.std.proofs.Common.{◌≡◌, ◌++◌, take}
-use Rattle.gtfs_runs.specs.steps.Groups.{stops_in}
-use Rattle.gtfs_runs.proofs.stop_lists.push_stops.Given as goal
+use Rattle.gtfs_stop_times.specs.StopLists.{stops_in}
+use Rattle.gtfs_stop_times.proofs.stop_lists.push_stops.Given as goal
 
 -- those so far
 abbrev pub invariant-loop-row : goal.invariant-loop-row
