@@ -20,7 +20,7 @@ use Rattle.gtfs_advice.specs.declared.advice.Subject.TheVariants as subject
 use Rattle.gtfs_advice.specs.declared.code.Code.{Code}
 use Rattle.gtfs_advice.specs.Advice.{Tells, advice_on, agency_rules, answers_of, row, said}
 use Rattle.gtfs_advice.specs.Agencies.{has_no_route}
-use Rattle.gtfs_advice.specs.Marks.{AreMarks}
+use Rattle.gtfs_advice.specs.NumberMarks.{AreMarks}
 use Rattle.gtfs_advice.proofs.Marking.{named}
 use Rattle.gtfs_advice.proofs.Telling.{told-more}
 

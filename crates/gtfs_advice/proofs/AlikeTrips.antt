@@ -22,8 +22,8 @@ use Rattle.gtfs_rows.specs.declared.parts.Parts.{Parts}
 use Rattle.gtfs_rows.proofs.SameElements.{pairs-map}
 use Rattle.gtfs_rows.proofs.SoundOrder.{in_order}
 use Rattle.gtfs_stop_times.specs.declared.stop_row.StopRow.{StopRow as Row}
-use Rattle.gtfs_advice.specs.declared.courses.Course.{Course}
-use Rattle.gtfs_advice.specs.Courses.{IsCourse, call_cmp, course_cmp, period_cmp}
+use Rattle.gtfs_advice.specs.declared.trip_courses.Course.{Course}
+use Rattle.gtfs_advice.specs.TripCourses.{IsCourse, call_cmp, course_cmp, period_cmp}
 use Rattle.gtfs_advice.specs.StopTimes.{is_same_stop}
 use Rattle.gtfs_advice.specs.Trips.{is_like, is_same_call, is_same_period}
 use Rattle.gtfs_advice.proofs.Numbers.{same_number}

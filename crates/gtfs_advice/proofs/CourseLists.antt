@@ -6,8 +6,8 @@ use Rattle.std.proofs.lemmas.List.{map-append}
 use Rattle.std.proofs.lemmas.List.Elements.{All-nil, All-push}
 use Rattle.gtfs_field.proofs.ListFacts.{range-push}
 use Rattle.gtfs_rows.specs.declared.parts.Parts.{Parts}
-use Rattle.gtfs_advice.specs.declared.courses.Course.{Course}
-use Rattle.gtfs_advice.specs.Courses.{AreCourses, IsCourse}
+use Rattle.gtfs_advice.specs.declared.trip_courses.Course.{Course}
+use Rattle.gtfs_advice.specs.TripCourses.{AreCourses, IsCourse}
 
 -- those of the first trips
 pub record AreCoursesTo (p : Parts) (n : ℕ) (xs : List Course) : Type 0 where

@@ -7,7 +7,7 @@ use Rattle.jiff_core.proofs.SignedLemmas.{signed_arith}
 use Rattle.gtfs_field.proofs.NumberFacts.{cases_int, int_le-true, int_lt-true, int_lt-false}
 use Rattle.gtfs_days.specs.Service.{first_service_day, last_service_day}
 use Rattle.gtfs_advice.specs.Services.{begins_gap_of}
-use Rattle.gtfs_advice.specs.Seasons.{GoesOn}
+use Rattle.gtfs_advice.specs.ServiceSeasons.{GoesOn}
 use Rattle.gtfs_advice.specs.ServedDays.{AreKnown, IsPart, IsQuiet, RunsOnServiceDays, days_before, gap_before}
 use Rattle.gtfs_advice.specs.declared.served_days.ServedDays.{ServedDays}
 use Rattle.gtfs_advice.proofs.Gaps.{gap_begins, none_more, one_more, rested_before, served_soon}

@@ -13,7 +13,7 @@ use Rattle.gtfs_rows.specs.Runs.{is_not_last}
 use Rattle.gtfs_rows.specs.Views.{stop_row_of, text_of_number}
 use Rattle.gtfs_rows.specs.declared.parts.Parts.{Parts}
 use Rattle.gtfs_stop_times.specs.declared.stop_row.StopRow.{StopRow as Row}
-use Rattle.gtfs_advice.specs.Steps.{GoesAlong}
+use Rattle.gtfs_advice.specs.NumberedRows.{GoesAlong}
 
 -- a test that all pass says no more
 under : {X : Type 0} (p q : X → Bool) (xs : List X) → All (λ x. p x ≡ true) xs → list_any (λ x. p x && q x) xs ≡ list_any q xs

@@ -3,7 +3,7 @@ use Rattle.std.proofs.Common.{◌≡◌, ◌∙◌, List, [], ◌∷◌, ℕ, Bo
 use Rattle.std.specs.Str.{chars}
 use Rattle.std.proofs.lemmas.Str.{chars-nil}
 use Rattle.std.specs.Prelude.{◌==◌, ◌&&◌, ◌||◌}
-use Rattle.gtfs_advice.specs.Texts.{has_garbled, is_lead, is_misread, is_odd, is_trail}
+use Rattle.gtfs_advice.specs.TextFaults.{has_garbled, is_lead, is_misread, is_odd, is_trail}
 
 abbrev begins : List ℕ → Bool
 begins [] = false

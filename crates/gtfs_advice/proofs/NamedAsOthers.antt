@@ -25,8 +25,8 @@ use Rattle.gtfs_rows.proofs.RowTexts.{all_at}
 use Rattle.gtfs_rows.proofs.SameElements.{pairs-map}
 use Rattle.gtfs_rows.proofs.SoundOrder.{in_order}
 use Rattle.gtfs_advice.specs.declared.named_routes.NamedRoute.{NamedRoute}
-use Rattle.gtfs_advice.specs.Marks.{AreMarks}
-use Rattle.gtfs_advice.specs.Names.{AreNamed, IsNamed, listed_cmp, name_cmp, neighbours, repeated}
+use Rattle.gtfs_advice.specs.NumberMarks.{AreMarks}
+use Rattle.gtfs_advice.specs.NamedRoutes.{AreNamed, IsNamed, listed_cmp, name_cmp, neighbours, repeated}
 use Rattle.gtfs_advice.specs.Routes.{has_names_of, is_named_as_another, same_text}
 use Rattle.gtfs_advice.proofs.NamedRoutes.{names_total}
 use Rattle.gtfs_advice.proofs.Numbers.{lower_number, same_number}

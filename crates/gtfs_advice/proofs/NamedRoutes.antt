@@ -8,7 +8,7 @@ use Rattle.std.proofs.Math.Seq.{get_or-append_seam}
 use Rattle.gtfs_field.proofs.TextOrderFacts.{texts_total}
 use Rattle.gtfs_rows.specs.declared.route.Route.{Route}
 use Rattle.gtfs_advice.specs.declared.named_routes.NamedRoute.{NamedRoute}
-use Rattle.gtfs_advice.specs.Names.{AreNamed, IsNamed, listed_cmp, name_cmp}
+use Rattle.gtfs_advice.specs.NamedRoutes.{AreNamed, IsNamed, listed_cmp, name_cmp}
 
 -- ---- their order
 

@@ -19,9 +19,9 @@ use Rattle.gtfs_rows.specs.Views.{IsSoundParts, content_of_parts, stop_row_of, t
 use Rattle.gtfs_rows.specs.declared.parts.Parts.{Parts}
 use Rattle.gtfs_rows.proofs.SameElements.{pairs-map}
 use Rattle.gtfs_rows.proofs.SoundOrder.{in_order, trip_ids-kept}
-use Rattle.gtfs_advice.specs.declared.courses.Course.{Course}
-use Rattle.gtfs_advice.specs.Courses.{AreCourses, AreRepeats, IsCourse, course_cmp, is_repeat, listed_cmp, neighbours, repeated, repeats_one}
-use Rattle.gtfs_advice.specs.Marks.{AreMarks}
+use Rattle.gtfs_advice.specs.declared.trip_courses.Course.{Course}
+use Rattle.gtfs_advice.specs.TripCourses.{AreCourses, AreRepeats, IsCourse, course_cmp, is_repeat, listed_cmp, neighbours, repeated, repeats_one}
+use Rattle.gtfs_advice.specs.NumberMarks.{AreMarks}
 use Rattle.gtfs_advice.specs.Trips.{is_like, is_same_as_another}
 use Rattle.gtfs_advice.proofs.AlikeTrips.{alike}
 use Rattle.gtfs_advice.proofs.NamedAsOthers.{any-paired, number-if}

@@ -22,7 +22,7 @@ use Rattle.std.proofs.lemmas.Option.{get_or_from_slice_get, same_Some, slice_get
 use Rattle.gtfs_field.proofs.ListFacts.{pairs-from_map}
 use Rattle.gtfs_field.proofs.OrderingFacts.{equal}
 use Rattle.gtfs_schema.proofs.BoolFacts.{same_test}
-use Rattle.gtfs_advice.specs.Marks.{AreMarks}
+use Rattle.gtfs_advice.specs.NumberMarks.{AreMarks}
 use Rattle.gtfs_advice.proofs.Marking.{AreMarksSoFar, all-marked, none-more, one-marked}
 
 -- ---- orderings

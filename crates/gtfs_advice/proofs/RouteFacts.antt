@@ -30,7 +30,7 @@ use Rattle.gtfs_advice.specs.declared.advice.Advice.{Advice}
 use Rattle.gtfs_advice.specs.declared.advice.Subject.TheVariants as subject
 use Rattle.gtfs_advice.specs.declared.code.Code.{Code}
 use Rattle.gtfs_advice.specs.Advice.{Tells, advice_on, answers_of, route_rules, row, said}
-use Rattle.gtfs_advice.specs.Marks.{AreMarks, is_directed, route_if}
+use Rattle.gtfs_advice.specs.NumberMarks.{AreMarks, is_directed, route_if}
 use Rattle.gtfs_advice.specs.Routes.{has_no_trip, is_named_as_another, is_of_route}
 use Rattle.gtfs_advice.proofs.Marking.{named}
 use Rattle.gtfs_advice.proofs.Telling.{told-more}

@@ -21,7 +21,7 @@ use Rattle.gtfs_rows.proofs.SameElements.{pairs-map}
 use Rattle.gtfs_rows.proofs.SoundOrder.{in_order}
 use Rattle.gtfs_stop_times.specs.declared.stop_row.StopRow.{StopRow as Row}
 use Rattle.gtfs_advice.specs.StopTimes.{has_closed_stop, has_six_stops_at_one_moment, is_at_one_moment, is_closed, is_faster_than_a_train, is_same_stop, is_too_far, is_too_fast, last_comes, latitude, latitude_at, of_two, stops_twice_in_a_row, stretches}
-use Rattle.gtfs_advice.specs.Steps.{GoesAlong, are_too_fast, have_one_stop, latitude_of, latitude_there, of_two_rows}
+use Rattle.gtfs_advice.specs.NumberedRows.{GoesAlong, are_too_fast, have_one_stop, latitude_of, latitude_there, of_two_rows}
 use Rattle.gtfs_advice.proofs.Numbers.{found_id, same_number}
 use Rattle.gtfs_advice.proofs.Windows.{windows, windows-next, stretches-windows, windows-map}
 

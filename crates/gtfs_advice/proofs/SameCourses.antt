@@ -8,8 +8,8 @@ use Rattle.gtfs_rows.specs.Choices.{drop_off_code, exact_code, pickup_code, time
 use Rattle.gtfs_rows.specs.NamedRows.{text_of_number}
 use Rattle.gtfs_rows.specs.declared.frequency.Frequency.{Frequency}
 use Rattle.gtfs_stop_times.specs.declared.stop_row.StopRow.{StopRow}
-use Rattle.gtfs_advice.specs.declared.courses.Course.{Course}
-use Rattle.gtfs_advice.specs.Courses.{call_cmp, course_cmp, listed_cmp, period_cmp}
+use Rattle.gtfs_advice.specs.declared.trip_courses.Course.{Course}
+use Rattle.gtfs_advice.specs.TripCourses.{call_cmp, course_cmp, listed_cmp, period_cmp}
 
 module _ (headsigns : List (List ℕ)) where
   calls_total : IsTotalOrder (call_cmp headsigns)

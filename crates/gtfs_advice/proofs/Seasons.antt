@@ -2,7 +2,7 @@
 use Rattle.std.proofs.Common.{◌≡◌, ◌∙◌, ◌<◌, ℕ, Bool, true, ℤ, pos, ◌+ℤ◌, ◌-ℤ◌, ◌<ℤ◌, ◌≤ℤ◌, unsigned_abs, ap, inl, inr, arith}
 use Rattle.jiff_core.proofs.SignedLemmas.{signed_arith}
 use Rattle.gtfs_field.proofs.NumberFacts.{abs-above, cases_int}
-use Rattle.gtfs_advice.specs.Seasons.{GoesOn, IsNear}
+use Rattle.gtfs_advice.specs.ServiceSeasons.{GoesOn, IsNear}
 
 -- the day before the one after a day is that day
 before_after : (d : ℤ) → (d +ℤ pos 1) -ℤ pos 1 ≡ d

@@ -30,7 +30,7 @@ use Rattle.gtfs_advice.specs.declared.advice.Advice.{Advice}
 use Rattle.gtfs_advice.specs.declared.advice.Subject.TheVariants as subject
 use Rattle.gtfs_advice.specs.declared.code.Code.{Code}
 use Rattle.gtfs_advice.specs.Advice.{Tells, advice_on, answers_of, row, said, stop_rules}
-use Rattle.gtfs_advice.specs.Marks.{AreMarks, station_of}
+use Rattle.gtfs_advice.specs.NumberMarks.{AreMarks, station_of}
 use Rattle.gtfs_advice.specs.Stops as advice
 use Rattle.gtfs_advice.specs.Stops.{calls_at, is_far, is_far_from_parent, is_part_of}
 use Rattle.gtfs_advice.proofs.Marking.{named, or-none}

@@ -27,7 +27,7 @@ use Rattle.gtfs_advice.specs.Advice.{About, IsWithin, Tells, about_day, about_of
 use Rattle.gtfs_advice.specs.ServedDays.{AreAllKnown, days_before, end_of, end_said, gap_said, gaps_said, last_of}
 use Rattle.gtfs_advice.specs.Services.{begins_gap_of, ends_soon, gaps, is_day_served, is_used, last_served}
 use Rattle.gtfs_advice.specs.UsedServices.{AreServiceMarks}
-use Rattle.gtfs_advice.specs.Waiting.{IsServedBy, runs_on}
+use Rattle.gtfs_advice.specs.WaitingServices.{IsServedBy, runs_on}
 use Rattle.gtfs_advice.proofs.Gaps.{all_before, any_day, ended, one_more}
 use Rattle.gtfs_advice.proofs.Telling.{told-both}
 use Rattle.gtfs_advice.proofs.UsedFacts.{marked}

@@ -19,10 +19,10 @@ use Rattle.gtfs_stop_times.specs.declared.stop_row.StopRow.{StopRow}
 use Rattle.gtfs_advice.specs.declared.advice.Advice.{Advice}
 use Rattle.gtfs_advice.specs.declared.advice.Subject.TheVariants as subject
 use Rattle.gtfs_advice.specs.declared.code.Code.{Code}
-use Rattle.gtfs_advice.specs.declared.courses.Course.{Course}
+use Rattle.gtfs_advice.specs.declared.trip_courses.Course.{Course}
 use Rattle.gtfs_advice.specs.Advice.{AdviceRule, Tells, advice_on, answers_of, row, said}
-use Rattle.gtfs_advice.specs.Courses.{IsCourse}
-use Rattle.gtfs_advice.specs.Steps.{GoesAlong}
+use Rattle.gtfs_advice.specs.TripCourses.{IsCourse}
+use Rattle.gtfs_advice.specs.NumberedRows.{GoesAlong}
 use Rattle.gtfs_advice.proofs.RepeatedTrips.{trip_id-at, trips_counted}
 use Rattle.gtfs_advice.proofs.Telling.{told-all, told-more}
 

@@ -21,7 +21,7 @@ use Rattle.gtfs_days.specs.Service.{IsFirstIfAny, first_service_day, is_active, 
 use Rattle.gtfs_days.proofs.ActiveDays.{first_same}
 use Rattle.gtfs_rows.specs.declared.service.ServiceRow.{ServiceRow}
 use Rattle.gtfs_advice.specs.ServedDays.{AreAllKnown, AreKnown, IsPart, IsQuiet, RunsOnServiceDays}
-use Rattle.gtfs_advice.specs.Waiting.{AreWaiting, IsServedBy, Joins, Wait, runs_on, wait_cmp, waits_for}
+use Rattle.gtfs_advice.specs.WaitingServices.{AreWaiting, IsServedBy, Joins, Wait, runs_on, wait_cmp, waits_for}
 use Rattle.gtfs_advice.specs.declared.served_days.ServedDays.{ServedDays}
 
 -- how many days are left for a service that waits

@@ -3,7 +3,7 @@ use Rattle.std.specs.Prelude.{not, Bool, bytes_eq}
 use Rattle.std.specs.List.{list_any}
 use Rattle.gtfs_rows.specs.Content.{Content}
 use Rattle.gtfs_rows.specs.Rows.{Agency}
-use Rattle.gtfs_advice.specs.Texts.{is_garbled, lacks_scheme}
+use Rattle.gtfs_advice.specs.TextFaults.{is_garbled, lacks_scheme}
 
 -- no route is of this agency
 abbrev pub has_no_route : Content → Agency → Bool

@@ -1,4 +1,4 @@
-pub mod Texts
+pub mod TextFaults
 pub mod Agencies
 pub mod Stops
 pub mod Routes
@@ -7,11 +7,11 @@ pub mod StopTimes
 pub mod Services
 pub mod Codes
 pub mod Advice
-pub mod Marks
-pub mod Steps
-pub mod Courses
-pub mod Names
-pub mod Seasons
+pub mod NumberMarks
+pub mod NumberedRows
+pub mod TripCourses
+pub mod NamedRoutes
+pub mod ServiceSeasons
 pub mod ServedDays
-pub mod Waiting
+pub mod WaitingServices
 pub mod UsedServices

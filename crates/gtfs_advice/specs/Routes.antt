@@ -7,7 +7,7 @@ use Rattle.gtfs_schema.specs.Values.{if_both, if_there}
 use Rattle.gtfs_field.specs.TextOrder.{text_cmp}
 use Rattle.gtfs_rows.specs.Content.{Content}
 use Rattle.gtfs_rows.specs.Rows.{Route, Trip}
-use Rattle.gtfs_advice.specs.Texts.{has_more_characters, is_garbled_if_given, repeats}
+use Rattle.gtfs_advice.specs.TextFaults.{has_more_characters, is_garbled_if_given, repeats}
 
 abbrev pub is_of_route : Route → Trip → Bool
 is_of_route r t = bytes_eq t.route_id r.route_id

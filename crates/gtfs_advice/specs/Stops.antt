@@ -6,7 +6,7 @@ use Rattle.std.specs.Option.{option_and_then, option_eq}
 use Rattle.gtfs_schema.specs.Values.{if_both, if_there}
 use Rattle.gtfs_rows.specs.Content.{Content}
 use Rattle.gtfs_rows.specs.Rows.{Stop, Trip}
-use Rattle.gtfs_advice.specs.Texts.{is_garbled_if_given}
+use Rattle.gtfs_advice.specs.TextFaults.{is_garbled_if_given}
 
 -- the stop of an id
 abbrev pub stop_with_id : Content → List ℕ → Option Stop

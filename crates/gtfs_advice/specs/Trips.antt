@@ -8,7 +8,7 @@ use Rattle.gtfs_field.specs.TextOrder.{text_cmp}
 use Rattle.gtfs_rows.specs.Content.{Content}
 use Rattle.gtfs_rows.specs.Rows.{Frequency, StopRow, Trip}
 use Rattle.gtfs_rows.specs.Runs.{is_not_last}
-use Rattle.gtfs_advice.specs.Texts.{is_garbled_if_given}
+use Rattle.gtfs_advice.specs.TextFaults.{is_garbled_if_given}
 
 -- neither the trip nor one of its stop times but the last says where it goes
 abbrev pub lacks_headsign : Trip → Bool

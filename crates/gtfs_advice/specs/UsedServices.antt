@@ -4,7 +4,7 @@ use Rattle.std.specs.List.{list_any}
 use Rattle.gtfs_rows.specs.Rows.{ServiceRow, Trip}
 use Rattle.gtfs_rows.specs.Views.{content_of_parts, service_ids}
 use Rattle.gtfs_rows.specs.declared.parts.Parts.{Parts}
-use Rattle.gtfs_advice.specs.Marks.{AreMarks}
+use Rattle.gtfs_advice.specs.NumberMarks.{AreMarks}
 use Rattle.gtfs_advice.specs.Services.{has_week}
 
 -- a trip of the service with this id, and one with a stop time where only these count

@@ -4,11 +4,11 @@ ghost use Rattle.gtfs_rows.specs.Content.{Content};
 ghost use Rattle.gtfs_rows.specs.Views.{IsSoundParts, agency_of, content_of_parts};
 ghost use Rattle.gtfs_advice.specs.Advice.{Tells, agency_advice, agency_rules, answers_of};
 ghost use Rattle.gtfs_advice.specs.Agencies.{has_no_route};
-ghost use Rattle.gtfs_advice.specs.Marks.{AreMarks};
+ghost use Rattle.gtfs_advice.specs.NumberMarks.{AreMarks};
 
 use crate::advice::{Advice, Subject, tell};
 use crate::code::Code;
-use crate::texts::{is_garbled, lacks_scheme};
+use crate::text_faults::{is_garbled, lacks_scheme};
 use gtfs_feed::Feed;
 use gtfs_field::OutOfMemory;
 use gtfs_rows::{Agency, AgencyNo, Parts, Route};

@@ -7,24 +7,24 @@
 
 mod advice;
 mod agencies;
-mod calls;
+mod all_advice;
 mod code;
-mod courses;
-mod days;
-mod files;
+mod days_without_service;
 mod frequencies;
 mod named_routes;
+mod reached_and_left;
 mod repeated_trips;
 mod routes;
-mod season;
 mod served_days;
+mod service_seasons;
 mod services;
 mod stop_times;
 mod stops;
-mod texts;
+mod text_faults;
+mod trip_courses;
 mod trips;
-mod waiting;
+mod waiting_services;
 
 pub use advice::{Advice, Subject};
+pub use all_advice::advise;
 pub use code::Code;
-pub use files::advise;

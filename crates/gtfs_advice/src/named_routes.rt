@@ -3,8 +3,8 @@ ghost use Rattle.std.specs.List.{list_any};
 ghost use Rattle.std.specs.List.Sorted.{IsPermutation, IsSorted};
 ghost use Rattle.std.specs.Option.{option_eq};
 ghost use Rattle.gtfs_rows.specs.Views.{IsSoundParts, content_of_parts};
-ghost use Rattle.gtfs_advice.specs.Marks.{AreMarks};
-ghost use Rattle.gtfs_advice.specs.Names.{AreNamed, IsNamed, listed_cmp, name_cmp, neighbours, repeated};
+ghost use Rattle.gtfs_advice.specs.NumberMarks.{AreMarks};
+ghost use Rattle.gtfs_advice.specs.NamedRoutes.{AreNamed, IsNamed, listed_cmp, name_cmp, neighbours, repeated};
 ghost use Rattle.gtfs_advice.specs.Routes.{is_named_as_another};
 
 use gtfs_field::{OutOfMemory, Text};

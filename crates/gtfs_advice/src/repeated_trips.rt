@@ -1,9 +1,9 @@
 ghost use Rattle.std.specs.Prelude.{◌≡◌, ◌<◌, IfOk, length};
 ghost use Rattle.std.specs.List.{All};
-ghost use Rattle.gtfs_advice.specs.Courses.{AreRepeats, repeats_one};
-ghost use Rattle.gtfs_advice.specs.Marks.{AreMarks};
+ghost use Rattle.gtfs_advice.specs.TripCourses.{AreRepeats, repeats_one};
+ghost use Rattle.gtfs_advice.specs.NumberMarks.{AreMarks};
 
-use crate::courses::{Course, courses, in_order, is_repeat};
+use crate::trip_courses::{Course, courses, in_order, is_repeat};
 use gtfs_feed::Feed;
 use gtfs_field::{OutOfMemory, Text};
 use std::alloc::Global;

@@ -5,13 +5,13 @@ ghost use Rattle.gtfs_rows.specs.Content.{Content};
 ghost use Rattle.gtfs_rows.specs.NamedRows.{route_named};
 ghost use Rattle.gtfs_rows.specs.Views.{IsSoundParts, content_of_parts, route_of};
 ghost use Rattle.gtfs_advice.specs.Advice.{Tells, answers_of, route_advice, route_rules};
-ghost use Rattle.gtfs_advice.specs.Marks.{AreMarks, is_directed, route_if};
+ghost use Rattle.gtfs_advice.specs.NumberMarks.{AreMarks, is_directed, route_if};
 ghost use Rattle.gtfs_advice.specs.Routes.{brightness, has_close_colours, is_garbled_route, has_long_short_name, is_named_as_another, is_of_route, repeats_short_name};
 
 use crate::advice::{Advice, Subject, tell};
 use crate::code::Code;
 use crate::named_routes::named_as_others;
-use crate::texts::{has_more_characters, is_garbled_if_given, repeats};
+use crate::text_faults::{has_more_characters, is_garbled_if_given, repeats};
 use gtfs_feed::Feed;
 use gtfs_field::{Colour, OutOfMemory};
 use gtfs_rows::{Parts, Route, RouteNo, Trip};

@@ -1,10 +1,10 @@
 //! The days on which something runs.
 ghost use Rattle.std.specs.Prelude.{◌≡◌, true, OnOk, Bool, List, [], ◌∷◌, ◌++◌, ℤ, pos, ◌+ℤ◌, ◌≤ℤ◌, ◌<ℤ◌, ◌&&◌, if◌then◌else◌, int_le, int_lt};
 ghost use Rattle.gtfs_days.specs.Service.{first_service_day, is_active, last_service_day};
-ghost use Rattle.gtfs_advice.specs.Seasons.{RestsFrom};
+ghost use Rattle.gtfs_advice.specs.ServiceSeasons.{RestsFrom};
 ghost use Rattle.gtfs_advice.specs.ServedDays.{AreKnown, IsPart, IsQuiet, RunsOnServiceDays, gap_before};
 
-use crate::season::{day_after_season, days_after};
+use crate::service_seasons::{day_after_season, days_after};
 use gtfs_days::{FIRST_SERVICE_DAY, Service};
 use gtfs_field::{Day, OutOfMemory};
 use std::alloc::Global;

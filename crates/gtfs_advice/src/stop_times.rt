@@ -4,11 +4,11 @@ ghost use Rattle.gtfs_rows.specs.Rows.{Trip};
 ghost use Rattle.gtfs_rows.specs.Views.{content_of_parts, stop_row_of};
 ghost use Rattle.gtfs_rows.specs.declared.parts.Parts.{Parts};
 ghost use Rattle.gtfs_advice.specs.StopTimes.{stops_twice_in_a_row, has_six_stops_at_one_moment, is_at_one_moment, is_faster_than_a_train, has_closed_stop, is_longer_than_a_day};
-ghost use Rattle.gtfs_advice.specs.Steps.{are_too_fast, have_one_stop, GoesAlong, is_closed_row, latitude_of, latitude_there, of_two_rows};
+ghost use Rattle.gtfs_advice.specs.NumberedRows.{are_too_fast, have_one_stop, GoesAlong, is_closed_row, latitude_of, latitude_there, of_two_rows};
 
 use crate::advice::{Advice, Subject, tell};
-use crate::calls::{first_left_at, last_reached_at, left_at, reached_at};
 use crate::code::Code;
+use crate::reached_and_left::{first_left_at, last_reached_at, left_at, reached_at};
 use gtfs_feed::Feed;
 use gtfs_field::{Coord, OutOfMemory};
 use gtfs_rows::{DropOffType, PickupType, Stop, StopRow, TripNo};

@@ -6,12 +6,12 @@ ghost use Rattle.gtfs_rows.specs.NamedRows.{stop_named};
 ghost use Rattle.gtfs_rows.specs.Trips.{stop_rows_by_trip};
 ghost use Rattle.gtfs_rows.specs.Views.{IsSoundParts, content_of_parts, names_stop, stop_of};
 ghost use Rattle.gtfs_advice.specs.Advice.{Tells, answers_of, stop_advice, stop_rules};
-ghost use Rattle.gtfs_advice.specs.Marks.{AreMarks, station_of};
+ghost use Rattle.gtfs_advice.specs.NumberMarks.{AreMarks, station_of};
 ghost use Rattle.gtfs_advice.specs.Stops.{calls_at, differ_by_more, is_far, is_far_from_parent, is_odd_place, is_part_of};
 
 use crate::advice::{Advice, Subject, tell};
 use crate::code::Code;
-use crate::texts::is_garbled_if_given;
+use crate::text_faults::is_garbled_if_given;
 use gtfs_feed::Feed;
 use gtfs_field::{Coord, OutOfMemory};
 use gtfs_rows::{LocationType, Parts, Stop, StopNo, StopRow};

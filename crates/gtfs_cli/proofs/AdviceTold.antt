@@ -11,7 +11,7 @@ use Rattle.gtfs_advice.specs.declared.advice.Advice.{Advice}
 use Rattle.gtfs_advice.specs.Codes.{advice_rank}
 use Rattle.gtfs_advice.specs.declared.code.Code.{Code}
 use Rattle.gtfs_cli.specs.AdviceLines.{advice_line, has_one_code}
-use Rattle.gtfs_cli.specs.Firsts.{firsts, if_counted}
+use Rattle.gtfs_cli.specs.FirstOfEachKind.{firsts, if_counted}
 use Rattle.gtfs_cli.proofs.Counted.{count-cons}
 use Rattle.gtfs_cli.proofs.MadeLines.{any-more, first-at}
 

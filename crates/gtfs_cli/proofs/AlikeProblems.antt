@@ -13,9 +13,9 @@ use Rattle.gtfs_schema.specs.View.{problem_of}
 use Rattle.gtfs_schema.specs.declared.problem.Problem.{Problem as Lent}
 use Rattle.gtfs_schema.specs.steps.ProblemOrder.{problem_equal}
 use Rattle.gtfs_cli.specs.CheckLines.{count_alike, is_alike, kind_of, shown_line}
-use Rattle.gtfs_cli.specs.Firsts.{firsts, if_counted}
-use Rattle.gtfs_cli.specs.LentKinds.{held_for, if_any, lent_cmp}
-use Rattle.gtfs_cli.specs.declared.commands.kinds.KindCounts.{KindCounts}
+use Rattle.gtfs_cli.specs.FirstOfEachKind.{firsts, if_counted}
+use Rattle.gtfs_cli.specs.KindCounts.{held_for, if_any, lent_cmp}
+use Rattle.gtfs_cli.specs.declared.commands.check.kind_counts.KindCounts.{KindCounts}
 use Rattle.gtfs_cli.proofs.Counted.{count-cons}
 use Rattle.gtfs_cli.proofs.MadeLines.{any-more, first-at, found as made-at, within as made-within}
 

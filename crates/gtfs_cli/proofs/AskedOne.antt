@@ -9,10 +9,10 @@ use Rattle.gtfs_commands.specs.declared.command.Command.TheVariants as commands
 use Rattle.gtfs_commands.specs.declared.command.ServeTexts.{ServeTexts as LentServeTexts}
 use Rattle.gtfs_commands.proofs.GtfsWords.{whole}
 use Rattle.gtfs_commands.proofs.OneAsked.{same_board, same_boards, same_check, same_merge, same_serve, same_timetable}
-use Rattle.gtfs_cli.specs.Plan.{Ends, Plan}
-use Rattle.gtfs_cli.specs.Seen.{Devices}
+use Rattle.gtfs_cli.specs.CommandPlan.{Ends, Plan}
+use Rattle.gtfs_cli.specs.DevicesSeen.{Devices}
 use Rattle.gtfs_cli.specs.declared.commands.refusal.Refusal.{Refusal}
-use Rattle.gtfs_cli.specs.Asked.{Asked, Asks, HearsNothing, Board, Boards, Check, Merge, Serve, Timetable, Untaken}
+use Rattle.gtfs_cli.specs.AskedCommand.{Asked, Asks, HearsNothing, Board, Boards, Check, Merge, Serve, Timetable, Untaken}
 
 -- ---- they ask for something
 

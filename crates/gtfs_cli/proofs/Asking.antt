@@ -7,8 +7,8 @@ use Rattle.std.specs.Option.{option_and_then}
 use Rattle.std.specs.Str.Pattern.{FindsTextPrefix}
 use Rattle.std.proofs.lemmas.Option.{same_Some}
 use Rattle.gtfs_times.specs.declared.times.Times.{Times}
-use Rattle.gtfs_cli.specs.Questions.{route_request, route_texts_in, AsksFor, Board, Question, RouteRequest, Timetable}
-use Rattle.gtfs_cli.specs.Requests.{stop_request, text_if_any, StopRequest}
+use Rattle.gtfs_cli.specs.ServeQuestions.{route_request, route_texts_in, AsksFor, Board, Question, RouteRequest, Timetable}
+use Rattle.gtfs_cli.specs.BoardsRequests.{stop_request, text_if_any, StopRequest}
 
 -- what stands behind a text at the beginning of another
 pub strip-text : (n s : List ℕ) (r : Option (Bor (List ℕ)))

@@ -11,27 +11,27 @@ use Rattle.gtfs_board.specs.Board.{is_stop}
 use Rattle.gtfs_board.specs.Page.{AreWritten, IsCutShort, IsPage, IsStopped}
 use Rattle.gtfs_board.specs.Lines.{Listed}
 use Rattle.gtfs_commands.specs.Words.{BoardTexts}
-use Rattle.gtfs_cli.specs.BoardSetting.{Setting}
-use Rattle.gtfs_cli.specs.Boards.{board_judges, request_of, AreValues, GoesOut, HoldsFeed, IsBoardText, IsOpeningCause, IsStopCause, IsTextOf, ListsBoard}
+use Rattle.gtfs_cli.specs.BoardCommand.{BoardSetting, board_judges, GoesOut, IsBoardText, IsOpeningCause, IsStopCause, IsTextOf, ListsBoard}
+use Rattle.gtfs_cli.specs.LentBoardRequests.{board_request_of, AreBoardValues}
+use Rattle.gtfs_cli.specs.FilesInFolders.{HoldsFeed, HoldsZone}
 use Rattle.gtfs_cli.specs.Failures.{FailedNowhere, Failures}
-use Rattle.gtfs_cli.specs.HeldFiles.{HoldsZone}
-use Rattle.gtfs_cli.specs.OptionValues.{first_bad, IsRequest, Request}
-use Rattle.gtfs_cli.specs.Plan.{IsRefusedIn}
-use Rattle.gtfs_cli.specs.Seen.{Output}
+use Rattle.gtfs_cli.specs.BoardOptions.{first_bad_board, IsBoardRequest, BoardRequest}
+use Rattle.gtfs_cli.specs.CommandPlan.{IsRefusedIn}
+use Rattle.gtfs_cli.specs.DevicesSeen.{Output}
 use Rattle.gtfs_cli.specs.Sending.{or_none, IsSendingCause, PrintsText}
 use Rattle.gtfs_cli.specs.declared.commands.refusal.Refusal.{Refusal}
 use Rattle.gtfs_cli.specs.declared.commands.refusal.Refusal.TheVariants.{UnknownStop, UntilBeforeFrom, OutOfMemory}
-use Rattle.gtfs_cli.specs.declared.commands.values.Request.{Request as LentRequest}
+use Rattle.gtfs_cli.specs.declared.commands.board.options.BoardRequest.{BoardRequest as LentRequest}
 pub use Rattle.gtfs_cli.proofs.FoldersRead.{has-passing}
 use Rattle.gtfs_cli.proofs.Plans.{as-it-is, no-cause, or-none, prints-as}
 
 -- no value is bad
-pub none-bad : (asked : BoardTexts) (r : Request) → IsRequest asked r → first_bad asked ≡ None
+pub none-bad : (asked : BoardTexts) (r : BoardRequest) → IsBoardRequest asked r → first_bad_board asked ≡ None
 none-bad asked r is = rw (is.from, is.until, is.limit, is.after) refl
 
 -- ---- the text of a page, with nothing before it
 
-module _ (f : Content) (z : Zone) (stop : List ℕ) (r : Request) (limit : ℕ) (same : r.limit ≡ limit) (ds left : List Listed) (n : ℕ) (lists : ListsBoard f z stop r ds) (a b : Option (List ℕ)) where
+module _ (f : Content) (z : Zone) (stop : List ℕ) (r : BoardRequest) (limit : ℕ) (same : r.limit ≡ limit) (ds left : List Listed) (n : ℕ) (lists : ListsBoard f z stop r ds) (a b : Option (List ℕ)) where
   alone : (others : List Listed) (count : ℕ) (w : AreWritten z ds others a b count) → AreWritten z ds others (Some []) (Some w.text) count
   alone others count w = record { shown = w.shown; text = w.text; split = w.split; count = w.count; are_lines = w.are_lines; out = refl }
 
@@ -91,7 +91,7 @@ module _ (f : Content) (z : Zone) (stop : List ℕ) (r : Request) (limit : ℕ) 
 
 -- a page of the board that was opened in the zone is one of the board in that zone, and what no one is to blame for but the output is so of
 -- any cause
-pub printed-in : {A : Type 0} (f : Content) (stop : List ℕ) (r : Request) (y z : Zone) → y ≡ z → (ds : List Listed) (before after : Output) (ended : Result A Refusal)
+pub printed-in : {A : Type 0} (f : Content) (stop : List ℕ) (r : BoardRequest) (y z : Zone) → y ≡ z → (ds : List Listed) (before after : Output) (ended : Result A Refusal)
     → (ListsBoard f y stop r ds → PrintsText (IsTextOf IsPage f y stop r) (IsTextOf IsCutShort f y stop r) (IsTextOf IsStopped f y stop r) (λ _. ⊥) before after ended)
     → ListsBoard f z stop r ds
     → PrintsText (IsTextOf IsPage f z stop r) (IsTextOf IsCutShort f z stop r) (or_none (IsTextOf IsStopped f z stop r)) (IsOpeningCause f z stop r) before after ended
@@ -104,28 +104,28 @@ printed-in f stop r y z same ds before after ended prints lists =
 -- ---- of the folders
 
 module _ (limit : ℕ) (held : Option Store) (asked : BoardTexts) (feed : Feed) (z : Zone) (v : LentRequest) (h : HoldsFeed limit held asked.dir feed) (hz : HoldsZone limit held asked.zone z)
-    (are : AreValues asked v) where
-  abbrev setting : Setting limit held asked
+    (are : AreBoardValues asked v) where
+  abbrev setting : BoardSetting limit held asked
   setting = record {
     dataset = h.dataset;
     zone = z;
-    request = request_of v;
+    request = board_request_of v;
     holds = h.holds;
     passes = h.is_feed.0;
     holds_zone = hz;
     is_request = are.request;
   }
 
-  pub text-of : (Out : GoesOut) (text : List ℕ) → IsTextOf Out (content_of_parts feed) z asked.stop (request_of v) text → IsBoardText Out limit held asked text
-  text-of Out text is = (setting, subst (λ (f : Content). IsTextOf Out f z asked.stop (request_of v) text) h.is_feed.1 is)
+  pub text-of : (Out : GoesOut) (text : List ℕ) → IsTextOf Out (content_of_parts feed) z asked.stop (board_request_of v) text → IsBoardText Out limit held asked text
+  text-of Out text is = (setting, subst (λ (f : Content). IsTextOf Out f z asked.stop (board_request_of v) text) h.is_feed.1 is)
 
   module _ (x y : Failures) where
     -- all that is judged before the stop was found good
     after : (e : Refusal) → IsStopCause limit held asked e ⊎ (⊤ × IsSendingCause x.output y.output e) → IsRefusedIn (board_judges limit held asked) x y e
-    after e cause = inl (inr (none-bad asked (request_of v) are.request, inr (has-passing limit held asked.dir feed h, inr ((z, hz), cause))))
+    after e cause = inl (inr (none-bad asked (board_request_of v) are.request, inr (has-passing limit held asked.dir feed h, inr ((z, hz), cause))))
 
     pub cause-of : (e : Refusal) → (e ≡ OutOfMemory → FailedNowhere x y)
-        → IsOpeningCause (content_of_parts feed) z asked.stop (request_of v) e ⊎ IsSendingCause x.output y.output e
+        → IsOpeningCause (content_of_parts feed) z asked.stop (board_request_of v) e ⊎ IsSendingCause x.output y.output e
         → IsRefusedIn (board_judges limit held asked) x y e
     cause-of UnknownStop nowhere (inl c) = after UnknownStop (inl (setting, subst (λ (f : Content). is_stop f asked.stop ≡ false) h.is_feed.1 c))
     cause-of UntilBeforeFrom nowhere (inl c) =

@@ -5,7 +5,7 @@ use Rattle.gtfs_devices.specs.Folder.{CountsFault}
 use Rattle.gtfs_devices.specs.declared.folders.FolderFault.{FolderFault}
 use Rattle.gtfs_devices.specs.declared.folders.FolderFault.TheVariants as faults
 use Rattle.gtfs_table.proofs.FolderFacts.{calls-more, calls-none}
-use Rattle.gtfs_cli.specs.Calls.{MakesAtMost}
+use Rattle.gtfs_cli.specs.FolderCalls.{MakesAtMost}
 
 pub no-calls : (most : ℕ) (a : Option Calls) → MakesAtMost most a a
 no-calls most a = record { count = 0; few = omega arith; made = calls-none a }

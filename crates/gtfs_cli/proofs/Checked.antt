@@ -15,14 +15,14 @@ use Rattle.gtfs_advice.specs.declared.code.Code.{Code}
 use Rattle.gtfs_commands.specs.Words.{CheckTexts}
 use Rattle.gtfs_cli.specs.AdviceLines.{advice_lines, advised_line, advised_text}
 use Rattle.gtfs_cli.specs.CheckLines.{counts_text}
-use Rattle.gtfs_cli.specs.CheckOptions.{judged_check, lacks_advise}
-use Rattle.gtfs_cli.specs.Checking.{check_judges, last_lines}
+use Rattle.gtfs_cli.specs.CheckOptions.{judged_check, lacks_advise, IsUnread}
+use Rattle.gtfs_cli.specs.CheckCommand.{check_judges, last_lines}
 use Rattle.gtfs_cli.specs.Failures.{Failures}
-use Rattle.gtfs_cli.specs.HeldFiles.{HoldsTables}
-use Rattle.gtfs_cli.specs.LentChecks.{advised_lines, lines_after, lines_left, IsUnread}
-use Rattle.gtfs_cli.specs.Options.{day_if_given, first_of_bad}
-use Rattle.gtfs_cli.specs.Refusals.{IsTablesCause}
-use Rattle.gtfs_cli.specs.Seen.{Output}
+use Rattle.gtfs_cli.specs.FilesInFolders.{HoldsTables}
+use Rattle.gtfs_cli.specs.RestOfCheck.{advised_lines, lines_after, lines_left}
+use Rattle.gtfs_cli.specs.SharedOptions.{day_if_given, first_of_bad}
+use Rattle.gtfs_cli.specs.ReadingCauses.{IsTablesCause}
+use Rattle.gtfs_cli.specs.DevicesSeen.{Output}
 use Rattle.gtfs_cli.specs.Sending.{AreSent, IsSendingCause}
 use Rattle.gtfs_cli.specs.declared.commands.check.Begun.{Begun}
 use Rattle.gtfs_cli.specs.declared.commands.refusal.Refusal.{Refusal}

@@ -4,13 +4,13 @@ use Rattle.std.specs.Prelude.{OnErr, OnOk}
 use Rattle.std.specs.Io.KnownBytes.{Appends}
 use Rattle.gtfs_devices.specs.Device.{Rises}
 use Rattle.gtfs_cli.specs.Failures.{FailedNowhere, Failures}
-use Rattle.gtfs_cli.specs.Plan.{failures_of, Ends, Plan}
+use Rattle.gtfs_cli.specs.CommandPlan.{failures_of, Ends, Plan}
 use Rattle.gtfs_cli.specs.Refusals.{status_in, status_of, TellsFolders, TellsOutput}
-use Rattle.gtfs_cli.specs.Seen.{Devices, Output}
+use Rattle.gtfs_cli.specs.DevicesSeen.{Devices, Output}
 use Rattle.gtfs_cli.specs.Sending.{Sends, SendsBeginning}
 use Rattle.gtfs_cli.specs.declared.commands.refusal.Refusal.{Refusal}
 use Rattle.gtfs_cli.specs.declared.commands.refusal.Refusal.TheVariants.{Line, OutputFailed, Unreadable, Unwritable}
-use Rattle.gtfs_cli.specs.declared.commands.request_fault.RequestFault.TheVariants as requests
+use Rattle.gtfs_cli.specs.declared.commands.boards.request_fault.RequestFault.TheVariants as requests
 
 statuses-from : (r : Refusal) (status : ℕ) → status ≡ status_of r → status ≤ 4
 statuses-from (Line (requests.BadRequest number)) status is = omega (arith, is)

@@ -8,7 +8,7 @@ use Rattle.gtfs_table.specs.Reading.{kept_files}
 use Rattle.gtfs_table.specs.declared.file.File.{File}
 use Rattle.gtfs_devices.specs.Device.{Rises}
 use Rattle.gtfs_rows.specs.Content.{Content}
-use Rattle.gtfs_cli.specs.Merges.{file_text, with_files, DisturbsAfter, HoldsFiles, IsFileEnd, IsWritingEnd}
+use Rattle.gtfs_cli.specs.MergeCommand.{file_text, with_files, DisturbsAfter, HoldsFiles, IsFileEnd, IsWritingEnd}
 use Rattle.gtfs_cli.specs.declared.commands.refusal.Refusal.{Refusal}
 use Rattle.gtfs_cli.specs.declared.commands.refusal.Refusal.TheVariants.{Unwritable, OutOfMemory}
 use Rattle.gtfs_cli.proofs.Sequences.{items-split}

@@ -10,11 +10,11 @@ use Rattle.gtfs_table.specs.Tables.{Dataset}
 use Rattle.gtfs_table.specs.declared.file.File.{File}
 use Rattle.gtfs_table.specs.declared.file.File.TheVariants as file
 use Rattle.gtfs_schema.specs.Problems.{Passes}
-use Rattle.gtfs_cli.specs.HeldFiles.{HoldsErrors, HoldsKeptFile, HoldsPassing, HoldsTables, LacksFeed}
-use Rattle.gtfs_cli.specs.Judging.{feed, tables}
-use Rattle.gtfs_cli.specs.Messages.{line_of}
+use Rattle.gtfs_cli.specs.FilesInFolders.{HoldsErrors, HoldsKeptFile, HoldsPassing, HoldsTables, LacksFeed}
+use Rattle.gtfs_cli.specs.RefusalOrder.{feed, tables}
+use Rattle.gtfs_cli.specs.RefusalMessages.{line_of}
 use Rattle.gtfs_cli.specs.Outcomes.{IsPlainRefusal}
-use Rattle.gtfs_cli.specs.Refusals.{IsReadingCause, IsTablesCause}
+use Rattle.gtfs_cli.specs.ReadingCauses.{IsReadingCause, IsTablesCause}
 use Rattle.gtfs_cli.specs.declared.commands.refusal.Refusal.{Refusal}
 use Rattle.gtfs_cli.specs.declared.commands.refusal.Refusal.TheVariants.{NotThere, Unreadable, OverLimit, HasErrors, OutOfMemory}
 use Rattle.gtfs_cli.proofs.OneRefusal.{alike, line-at, Alike, Excludes, One, Quiet, Says}

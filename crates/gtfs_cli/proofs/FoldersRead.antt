@@ -5,10 +5,8 @@ use Rattle.gtfs_devices.specs.declared.folders.FolderFault.{FolderFault}
 use Rattle.gtfs_devices.specs.declared.folders.FolderFault.TheVariants as faults
 use Rattle.gtfs_table.specs.Tables.{Dataset}
 use Rattle.gtfs_rows.specs.declared.parts.Parts.{Parts as Feed}
-use Rattle.gtfs_cli.specs.Boards.{HoldsFeed, IsFeedCause}
-use Rattle.gtfs_cli.specs.FileRead.{IsFileCause, IsPathCause, IsZoneCause}
-use Rattle.gtfs_cli.specs.HeldFiles.{HoldsPassing, HoldsTables, IsFileOf}
-use Rattle.gtfs_cli.specs.Refusals.{IsReadingCause, IsTablesCause}
+use Rattle.gtfs_cli.specs.FilesInFolders.{HoldsFeed, HoldsPassing, HoldsTables, IsFileOf}
+use Rattle.gtfs_cli.specs.ReadingCauses.{IsFeedCause, IsFileCause, IsPathCause, IsZoneCause, IsReadingCause, IsTablesCause}
 use Rattle.gtfs_cli.specs.declared.commands.refusal.Refusal.{Refusal}
 use Rattle.gtfs_cli.specs.declared.commands.refusal.Refusal.TheVariants.{HasErrors, NoZone, OutOfMemory}
 

@@ -36,7 +36,7 @@ mod RequestFields
 mod RequestFaults
 mod RequestLines
 mod RequestBoards
-mod ManyBoards
+mod BoardsPrinted
 mod OneBoards
 mod Plans
 mod BoardParts

@@ -6,7 +6,7 @@ use Rattle.std.proofs.Math.Seq.{take-suc}
 use Rattle.std.proofs.lemmas.List.{get_or-map, length-map}
 use Rattle.std.proofs.lemmas.List.Folds.{list_any-append}
 use Rattle.std.proofs.lemmas.List.FromFn.{get_or-enumerate_from, length-enumerate_from}
-use Rattle.gtfs_cli.specs.Firsts.{first_of, firsts, if_counted}
+use Rattle.gtfs_cli.specs.FirstOfEachKind.{first_of, firsts, if_counted}
 
 module _ {Y X : Type 0} (f : Y → X) (ys : List Y) (i : ℕ) where
   abbrev all : List X

@@ -9,7 +9,7 @@ use Rattle.gtfs_field.specs.Kinds.{count_of, date_of, shaped, within}
 use Rattle.gtfs_field.specs.declared.fault.FieldFault.{FieldFault}
 use Rattle.gtfs_days.specs.Service.{is_service_day}
 use Rattle.gtfs_cli.specs.MergeOptions.{cutoff_of, near_of}
-use Rattle.gtfs_cli.specs.Options.{service_day}
+use Rattle.gtfs_cli.specs.SharedOptions.{service_day}
 use Rattle.gtfs_cli.proofs.Moments.{service-sound}
 
 -- a count is at most the greatest

@@ -15,8 +15,8 @@ use Rattle.gtfs_field.specs.declared.fault.FieldFault.{FieldFault}
 use Rattle.gtfs_days.specs.Service.{first_service_day, is_service_day, last_service_day}
 use Rattle.clap.specs.Lexer.{strip_byte}
 use Rattle.gtfs_field.proofs.Numerals.{numerals}
-use Rattle.gtfs_cli.specs.Options.{service_day}
-use Rattle.gtfs_cli.specs.OptionValues.{after_at}
+use Rattle.gtfs_cli.specs.SharedOptions.{service_day}
+use Rattle.gtfs_cli.specs.BoardOptions.{after_at}
 use Rattle.gtfs_board.specs.Span.{is_span}
 use Rattle.gtfs_board.specs.declared.span.Span.{Span}
 

@@ -12,7 +12,7 @@ use Rattle.gtfs_merge.specs.declared.kind.Kind.{Kind}
 use Rattle.gtfs_merge.specs.declared.kind.Side.{Side}
 use Rattle.gtfs_merge.specs.declared.kind.Side.TheVariants as side
 use Rattle.gtfs_merge.proofs.Lookups.{bytes_same}
-use Rattle.gtfs_cli.specs.NamesReport.{both_lines, id_line, named_line, names_report, side_lines}
+use Rattle.gtfs_cli.specs.MergeReport.{both_lines, id_line, named_line, names_report, side_lines}
 
 -- the lines of ids of which each became what the renaming says
 lines_of : (s : Side) (k : Kind) (rename : Renaming) (new : List ℕ → Option (List ℕ)) (xs : List (List ℕ)) → ((x : List ℕ) → lists_id xs x ≡ true → new x ≡ Some (rename x))

@@ -11,20 +11,20 @@ use Rattle.gtfs_rows.specs.Departures.{Origins}
 use Rattle.gtfs_rows.specs.Reading.{content_of}
 use Rattle.gtfs_times.specs.declared.times.Times.{Times}
 use Rattle.gtfs_commands.specs.Words.{ServeTexts}
-use Rattle.gtfs_cli.specs.Answers.{IsLineText, IsQuestion, AnswersWhole, IsWholeText}
-use Rattle.gtfs_cli.specs.BoardSetting.{LiesBefore}
-use Rattle.gtfs_cli.specs.OptionValues.{instant_at, Request}
-use Rattle.gtfs_cli.specs.Options.{times_of}
-use Rattle.gtfs_cli.specs.Questions.{AsksForNothing, Board, Question, Timetable}
-use Rattle.gtfs_cli.specs.Seen.{Talk}
-use Rattle.gtfs_cli.specs.Serving.{IsWhollyServed}
+use Rattle.gtfs_cli.specs.ServeAnswers.{IsLineText, IsQuestion, AnswersWhole, IsWholeText}
+use Rattle.gtfs_cli.specs.BoardCommand.{LiesBefore}
+use Rattle.gtfs_cli.specs.BoardOptions.{instant_at, BoardRequest}
+use Rattle.gtfs_cli.specs.SharedOptions.{times_of}
+use Rattle.gtfs_cli.specs.ServeQuestions.{AsksForNothing, Board, Question, Timetable}
+use Rattle.gtfs_cli.specs.DevicesSeen.{Talk}
+use Rattle.gtfs_cli.specs.ServeCommand.{IsWhollyServed}
 use Rattle.gtfs_cli.proofs.Asking.{one-question}
 use Rattle.gtfs_cli.proofs.FolderEnds.{one_dataset}
 use Rattle.gtfs_cli.proofs.OneBoard.{one_origin, one_text}
 use Rattle.gtfs_cli.proofs.ZoneEnds.{same_zones}
 
 module _ (f : Content) (y z : Zone) (same : SaysSame y z) where
-  before-in : (r : Request) → LiesBefore y r → LiesBefore z r
+  before-in : (r : BoardRequest) → LiesBefore y r → LiesBefore z r
   before-in r before = subst (λ (o : Origins). instant_at o r.until <ℤ instant_at o r.from) (one_origin y z same) before
 
   -- ---- a question has one text

@@ -15,13 +15,11 @@ use Rattle.gtfs_times.specs.Filling.{timed}
 use Rattle.gtfs_board.specs.Page.{IsCutShort, IsPage, IsStopped}
 use Rattle.gtfs_board.proofs.OneBoard.{one-board as one-list-of-keys}
 use Rattle.gtfs_commands.specs.Words.{BoardTexts}
-use Rattle.gtfs_cli.specs.BoardSetting.{LiesBefore, Setting}
-use Rattle.gtfs_cli.specs.Boards.{board_judges, board_plan, stop_and_span, IsBoardText, IsStopCause, IsTextOf}
-use Rattle.gtfs_cli.specs.FileRead.{HoldsSomeZone}
-use Rattle.gtfs_cli.specs.HeldFiles.{HoldsPassing}
-use Rattle.gtfs_cli.specs.Judging.{feed, followed_by, sending, values, zone, Judged}
-use Rattle.gtfs_cli.specs.OptionValues.{first_bad, instant_at, judged_board, IsRequest, Request}
-use Rattle.gtfs_cli.specs.Plan.{passed}
+use Rattle.gtfs_cli.specs.BoardCommand.{LiesBefore, BoardSetting, board_judges, board_plan, stop_and_span, IsBoardText, IsStopCause, IsTextOf}
+use Rattle.gtfs_cli.specs.FilesInFolders.{HoldsSomeZone, HoldsPassing}
+use Rattle.gtfs_cli.specs.RefusalOrder.{feed, followed_by, sending, values, zone, Judged}
+use Rattle.gtfs_cli.specs.BoardOptions.{first_bad_board, instant_at, judged_board, IsBoardRequest, BoardRequest}
+use Rattle.gtfs_cli.specs.CommandPlan.{passed}
 use Rattle.gtfs_cli.specs.declared.commands.refusal.Refusal.{Refusal}
 use Rattle.gtfs_cli.specs.declared.commands.refusal.Refusal.TheVariants.{UnknownStop, UntilBeforeFrom}
 use Rattle.gtfs_cli.proofs.BoardParts.{none-bad}
@@ -31,7 +29,7 @@ use Rattle.gtfs_cli.proofs.OnePage.{one_list, one_page}
 use Rattle.gtfs_cli.proofs.OneRefusal.{excludes-by, excludes-chain, excludes-last, excludes-values, one-chain, one-last, one-values, quiet-chain, quiet-last, quiet-values, Alike, Excludes, One, Quiet}
 use Rattle.gtfs_cli.proofs.ZoneEnds.{excludes-zone, one-zone, quiet-zone, same_zones}
 
-one_request : (asked : BoardTexts) (p q : Request) → IsRequest asked p → IsRequest asked q → p ≡ q
+one_request : (asked : BoardTexts) (p q : BoardRequest) → IsBoardRequest asked p → IsBoardRequest asked q → p ≡ q
 one_request asked p q a b =
     let from : p.from ≡ q.from = same_Some p.from q.from (sym a.from ∙ b.from) in
     let until : p.until ≡ q.until = same_Some p.until q.until (sym a.until ∙ b.until) in
@@ -46,16 +44,16 @@ module _ (y z : Zone) (same : SaysSame y z) where
   pub one_origin : zone_origin y ≡ zone_origin z
   one_origin = λ i n. same.origin n i
 
-  lies_before : (r : Request) → LiesBefore y r → LiesBefore z r
+  lies_before : (r : BoardRequest) → LiesBefore y r → LiesBefore z r
   lies_before r before = subst (λ (origin : Origins). instant_at origin r.until <ℤ instant_at origin r.from) one_origin before
 
-  one_keys : (f : Content) (stop : List ℕ) (r : Request) (xs ys : List Key) → IsBoard f (zone_origin y) stop (instant_at (zone_origin y) r.from) (instant_at (zone_origin y) r.until) r.after xs
+  one_keys : (f : Content) (stop : List ℕ) (r : BoardRequest) (xs ys : List Key) → IsBoard f (zone_origin y) stop (instant_at (zone_origin y) r.from) (instant_at (zone_origin y) r.until) r.after xs
       → IsBoard f (zone_origin z) stop (instant_at (zone_origin z) r.from) (instant_at (zone_origin z) r.until) r.after ys → xs ≡ ys
   one_keys f stop r xs ys a b =
       let moved = subst (λ (origin : Origins). IsBoard f origin stop (instant_at origin r.from) (instant_at origin r.until) r.after xs) one_origin a in
       one-list-of-keys f (zone_origin z) stop (instant_at (zone_origin z) r.from) (instant_at (zone_origin z) r.until) r.after xs ys moved b
 
-  pub one_text : (f : Content) (stop : List ℕ) (r : Request) (t u : List ℕ) → IsTextOf IsPage f y stop r t → IsTextOf IsPage f z stop r u → t ≡ u
+  pub one_text : (f : Content) (stop : List ℕ) (r : BoardRequest) (t u : List ℕ) → IsTextOf IsPage f y stop r t → IsTextOf IsPage f z stop r u → t ≡ u
   one_text f stop r t u a b =
       let keys = one_keys (timed r.times f) stop r (keys_of a.departures) (keys_of b.departures) a.lists.board b.lists.board in
       let listed = one_list f a.departures b.departures keys a.lists.shown b.lists.shown in
@@ -68,7 +66,7 @@ module _ (limit : ℕ) (store : Store) (asked : BoardTexts) where
   abbrev held : Option Store
   held = Some store
 
-  module _ (s t : Setting limit held asked) where
+  module _ (s t : BoardSetting limit held asked) where
     same_dataset : s.dataset ≡ t.dataset
     same_dataset = one_dataset limit store asked.dir s.dataset t.dataset s.holds t.holds
 
@@ -85,13 +83,13 @@ module _ (limit : ℕ) (store : Store) (asked : BoardTexts) where
     -- a span ends before it begins or it does not
     not_backward : LiesBefore s.zone s.request → (LiesBefore t.zone t.request → ⊥) → ⊥
     not_backward before forward =
-        forward (lies_before s.zone t.zone one_zone_of t.request (subst (λ (r : Request). LiesBefore s.zone r) same_request before))
+        forward (lies_before s.zone t.zone one_zone_of t.request (subst (λ (r : BoardRequest). LiesBefore s.zone r) same_request before))
 
     same_text : (x y : List ℕ) → IsTextOf IsPage (content_of s.dataset) s.zone asked.stop s.request x
         → IsTextOf IsPage (content_of t.dataset) t.zone asked.stop t.request y → x ≡ y
     same_text x y a b =
         let of_dataset = subst (λ (d : Dataset). IsTextOf IsPage (content_of d) s.zone asked.stop s.request x) same_dataset a in
-        let of_request = subst (λ (r : Request). IsTextOf IsPage (content_of t.dataset) s.zone asked.stop r x) same_request of_dataset in
+        let of_request = subst (λ (r : BoardRequest). IsTextOf IsPage (content_of t.dataset) s.zone asked.stop r x) same_request of_dataset in
         one_text s.zone t.zone one_zone_of (content_of t.dataset) asked.stop t.request x y of_request b
 
   one-board-text : (t u : List ℕ) (f g : Bool) → passed (IsBoardText IsPage limit held asked) t f → passed (IsBoardText IsPage limit held asked) u g → (t ≡ u) × (f ≡ g)
@@ -143,7 +141,7 @@ module _ (limit : ℕ) (store : Store) (asked : BoardTexts) where
 
   excludes-judges : Excludes Text (board_judges limit held asked)
   excludes-judges = excludes-chain (values (judged_board asked)) after_values Text
-      (excludes-by Text (first_bad asked ≡ None) (values (judged_board asked)) (λ text. none-bad asked text.1.0.request text.1.0.is_request) (excludes-values (judged_board asked)))
+      (excludes-by Text (first_bad_board asked ≡ None) (values (judged_board asked)) (λ text. none-bad asked text.1.0.request text.1.0.is_request) (excludes-values (judged_board asked)))
       (excludes-chain (feed limit held asked.dir) after_feed Text
       (excludes-by Text (HoldsPassing limit held asked.dir) (feed limit held asked.dir) (λ text. (text.1.0.dataset, text.1.0.holds, text.1.0.passes)) (excludes-feed limit store asked.dir))
       (excludes-chain (zone limit held asked.zone) last Text

@@ -9,16 +9,15 @@ use Rattle.gtfs_rows.specs.Content.{Content}
 use Rattle.gtfs_rows.specs.Departures.{Origins}
 use Rattle.gtfs_rows.specs.Reading.{content_of}
 use Rattle.gtfs_commands.specs.Words.{BoardsTexts}
-use Rattle.gtfs_cli.specs.FileRead.{HoldsNoUtf8, HoldsSomeZone}
-use Rattle.gtfs_cli.specs.HeldFiles.{HoldsBytes, HoldsPassing}
-use Rattle.gtfs_cli.specs.Judging.{feed, followed_by, sending, zone, Judged}
-use Rattle.gtfs_cli.specs.ManyBoards.{boards_judges, boards_plan, request_file, request_lines, requests_at, AreBoards, BeginsBoard, BeginsWhole, BoardsSetting, IsBoardsPart, IsBoardsText, IsLinesCause}
-use Rattle.gtfs_cli.specs.Messages.{line_of, request_line, request_text}
-use Rattle.gtfs_cli.specs.Options.{times_of}
-use Rattle.gtfs_cli.specs.Plan.{passed}
+use Rattle.gtfs_cli.specs.FilesInFolders.{HoldsNoUtf8, HoldsSomeZone, HoldsBytes, HoldsPassing}
+use Rattle.gtfs_cli.specs.RefusalOrder.{feed, followed_by, sending, zone, Judged}
+use Rattle.gtfs_cli.specs.BoardsCommand.{boards_judges, boards_plan, request_file, request_lines, requests_at, AreBoards, BeginsBoard, BeginsWhole, BoardsSetting, IsBoardsPart, IsBoardsText, IsLinesCause}
+use Rattle.gtfs_cli.specs.RefusalMessages.{line_of, request_line, request_text}
+use Rattle.gtfs_cli.specs.SharedOptions.{times_of}
+use Rattle.gtfs_cli.specs.CommandPlan.{passed}
 use Rattle.gtfs_cli.specs.Refusals.{request_status}
-use Rattle.gtfs_cli.specs.Requests.{request_heading, requests_of, StopRequest}
-use Rattle.gtfs_cli.specs.declared.commands.request_fault.RequestFault.{RequestFault}
+use Rattle.gtfs_cli.specs.BoardsRequests.{request_heading, requests_of, StopRequest}
+use Rattle.gtfs_cli.specs.declared.commands.boards.request_fault.RequestFault.{RequestFault}
 use Rattle.gtfs_cli.specs.declared.commands.refusal.Refusal.{Refusal}
 use Rattle.gtfs_cli.specs.declared.commands.refusal.Refusal.TheVariants.{Line, Unreadable}
 use Rattle.gtfs_cli.proofs.FolderEnds.{excludes-feed, one_dataset, one-feed, quiet-feed}

@@ -8,11 +8,11 @@ use Rattle.gtfs_schema.specs.Problems.{Problem, passes, IsReport}
 use Rattle.gtfs_commands.specs.Words.{CheckTexts}
 use Rattle.gtfs_rules.proofs.ReportLaws.{one_report}
 use Rattle.gtfs_cli.specs.CheckOptions.{judged_check, lacks_advise, needed, IsLack}
-use Rattle.gtfs_cli.specs.Checking.{check_judges, check_lines, check_plan, CheckSetting, IsReportOf, IsReportPart, IsSomeReport}
-use Rattle.gtfs_cli.specs.HeldFiles.{HoldsTables}
-use Rattle.gtfs_cli.specs.Judging.{followed_by, sending, tables, values, Judged}
-use Rattle.gtfs_cli.specs.Messages.{line_of}
-use Rattle.gtfs_cli.specs.Options.{first_of_bad}
+use Rattle.gtfs_cli.specs.CheckCommand.{check_judges, check_lines, check_plan, CheckSetting, IsReportOf, IsReportPart, IsSomeReport}
+use Rattle.gtfs_cli.specs.FilesInFolders.{HoldsTables}
+use Rattle.gtfs_cli.specs.RefusalOrder.{followed_by, sending, tables, values, Judged}
+use Rattle.gtfs_cli.specs.RefusalMessages.{line_of}
+use Rattle.gtfs_cli.specs.SharedOptions.{first_of_bad}
 use Rattle.gtfs_cli.specs.Sending.{joined, Begins}
 use Rattle.gtfs_cli.specs.declared.commands.refusal.Refusal.{Refusal}
 use Rattle.gtfs_cli.specs.declared.commands.refusal.Refusal.TheVariants.{DayWithoutAdvice}

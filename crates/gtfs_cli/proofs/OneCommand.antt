@@ -3,8 +3,8 @@ use Rattle.std.proofs.Common.{◌≡◌, ℕ, true, true≢false, List, Some, sy
 use Rattle.clap.specs.Words.{Text, takes}
 use Rattle.gtfs_devices.specs.Folder.{Store}
 use Rattle.gtfs_commands.specs.Words.{gtfs_app}
-use Rattle.gtfs_cli.specs.Asked.{plan_of, Asked, Asks, HearsNothing, Board, Boards, Check, Merge, Serve, Timetable, Untaken}
-use Rattle.gtfs_cli.specs.Seen.{Talk}
+use Rattle.gtfs_cli.specs.AskedCommand.{plan_of, Asked, Asks, HearsNothing, Board, Boards, Check, Merge, Serve, Timetable, Untaken}
+use Rattle.gtfs_cli.specs.DevicesSeen.{Talk}
 use Rattle.gtfs_cli.proofs.OneBoard.{one-board}
 use Rattle.gtfs_cli.proofs.OneBoards.{one-boards}
 use Rattle.gtfs_cli.proofs.OneCheck.{one-check}

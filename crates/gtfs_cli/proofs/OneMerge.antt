@@ -8,11 +8,11 @@ use Rattle.gtfs_rows.specs.Content.{Content}
 use Rattle.gtfs_rows.specs.Reading.{content_of}
 use Rattle.gtfs_merge.specs.Merged.{is_too_large, zone_texts_differ}
 use Rattle.gtfs_commands.specs.Words.{MergeTexts}
-use Rattle.gtfs_cli.specs.HeldFiles.{HoldsPassing}
-use Rattle.gtfs_cli.specs.Judging.{feed, followed_by, sending, values, Judged}
+use Rattle.gtfs_cli.specs.FilesInFolders.{HoldsPassing}
+use Rattle.gtfs_cli.specs.RefusalOrder.{feed, followed_by, sending, values, Judged}
 use Rattle.gtfs_cli.specs.MergeOptions.{first_bad_merge, judged_merge, IsMergeRequest, MergeRequest}
-use Rattle.gtfs_cli.specs.Merges.{file_limit, merge_judges, merge_of, merge_plan, merging, report_for, with_files, writing, CanMerge, HasLargeMerge, IsFolderMerge, IsMerged, IsMergingCause, IsWritingCause, MergeLeaves, MergeSetting}
-use Rattle.gtfs_cli.specs.Messages.{line_of, message}
+use Rattle.gtfs_cli.specs.MergeCommand.{file_limit, merge_judges, merge_of, merge_plan, merging, report_for, with_files, writing, CanMerge, HasLargeMerge, IsFolderMerge, IsMerged, IsMergingCause, IsWritingCause, MergeLeaves, MergeSetting}
+use Rattle.gtfs_cli.specs.RefusalMessages.{line_of, message}
 use Rattle.gtfs_cli.specs.Outcomes.{IsPlainRefusal}
 use Rattle.gtfs_cli.specs.Refusals.{status_of}
 use Rattle.gtfs_cli.specs.declared.commands.refusal.Refusal.{Refusal}

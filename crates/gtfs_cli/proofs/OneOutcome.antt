@@ -4,12 +4,12 @@ use Rattle.std.specs.Prelude.{cond}
 use Rattle.std.specs.Io.KnownBytes.{Appends, Keeps}
 use Rattle.gtfs_devices.specs.Folder.{Store}
 use Rattle.gtfs_cli.specs.Failures.{FailedNowhere}
-use Rattle.gtfs_cli.specs.Judging.{Judged}
-use Rattle.gtfs_cli.specs.Messages.{message}
+use Rattle.gtfs_cli.specs.RefusalOrder.{Judged}
+use Rattle.gtfs_cli.specs.RefusalMessages.{message}
 use Rattle.gtfs_cli.specs.Outcomes.{EndsAsOne, IsOutcome, IsPlainRefusal, IsUnhindered, Outcome}
-use Rattle.gtfs_cli.specs.Plan.{failures_of, prints, Ends, IsRun, Plan, TellsEnd}
+use Rattle.gtfs_cli.specs.CommandPlan.{failures_of, prints, Ends, IsRun, Plan, TellsEnd}
 use Rattle.gtfs_cli.specs.Refusals.{status_in, status_of}
-use Rattle.gtfs_cli.specs.Seen.{Devices, Output}
+use Rattle.gtfs_cli.specs.DevicesSeen.{Devices, Output}
 use Rattle.gtfs_cli.specs.Sending.{or_none, text_left, Sends}
 use Rattle.gtfs_cli.specs.declared.commands.refusal.Refusal.{Refusal}
 use Rattle.gtfs_cli.specs.declared.commands.refusal.Refusal.TheVariants.{OutputFailed, OutOfMemory}

@@ -2,9 +2,9 @@
 use Rattle.std.proofs.Common.{◌≡◌, ◌⊎◌, ◌∙◌, ap, sym, refl, inl, inr, ℕ, Bool, List, Some, None, codes, ◌≤◌, subst, arith}
 use Rattle.gtfs_devices.specs.Device.{counted}
 use Rattle.clap.specs.Words.{Text}
-use Rattle.gtfs_cli.specs.Judging.{followed_by, sending, values, IsFirstBad, Judged}
-use Rattle.gtfs_cli.specs.Messages.{line_of, message}
-use Rattle.gtfs_cli.specs.Options.{first_of_bad}
+use Rattle.gtfs_cli.specs.RefusalOrder.{followed_by, sending, values, IsFirstBad, Judged}
+use Rattle.gtfs_cli.specs.RefusalMessages.{line_of, message}
+use Rattle.gtfs_cli.specs.SharedOptions.{first_of_bad}
 use Rattle.gtfs_cli.specs.Outcomes.{IsPlainRefusal}
 use Rattle.gtfs_cli.specs.Refusals.{status_of}
 use Rattle.gtfs_cli.specs.declared.commands.refusal.Refusal.{Refusal}

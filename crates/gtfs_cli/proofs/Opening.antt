@@ -16,8 +16,8 @@ use Rattle.gtfs_board.specs.Shown.{IsShown}
 use Rattle.gtfs_board.specs.Span.{is_span}
 use Rattle.gtfs_board.specs.declared.key.Key.{Key as LentKey}
 use Rattle.gtfs_board.specs.declared.span.Span.{Span}
-use Rattle.gtfs_cli.specs.Boards.{ListsBoard}
-use Rattle.gtfs_cli.specs.OptionValues.{instant_at, Request}
+use Rattle.gtfs_cli.specs.BoardCommand.{ListsBoard}
+use Rattle.gtfs_cli.specs.BoardOptions.{instant_at, BoardRequest}
 
 -- a span that ends before it begins is bad
 backward : (s : Span) → s.until <ℤ s.from → is_span s ≡ false
@@ -29,7 +29,7 @@ after-lent None s is = ap (option_map plain_key) is
 after-lent (Some k) s is = ap (option_map plain_key) is
 
 -- a board over the instants of the values, that was not refused
-pub lists-board : (f : Content) (z : Zone) (stop : List ℕ) (r : Request) (s : Span) (x y : ℤ) (after : Option Key) (ds : List Listed) → s.from ≡ x → s.until ≡ y
+pub lists-board : (f : Content) (z : Zone) (stop : List ℕ) (r : BoardRequest) (s : Span) (x y : ℤ) (after : Option Key) (ds : List Listed) → s.from ≡ x → s.until ≡ y
     → x ≡ instant_at (zone_origin z) r.from → y ≡ instant_at (zone_origin z) r.until → after ≡ r.after → (is_stop f stop ≡ false → ⊥)
     → ((is_stop f stop ≡ true) × (is_span s ≡ false) → ⊥) → IsBoard (timed r.times f) (zone_origin z) stop s.from s.until after (keys_of ds) → All (IsShown f) ds
     → ListsBoard f z stop r ds

@@ -2,7 +2,7 @@
 use Rattle.std.proofs.Common.{◌≡◌, ◌∙◌, sym, subst, refl, ℕ, suc, ◌<◌, ◌⊎◌, inl, inr, List, [], ◌∷◌, ◌++◌, length, ap, arith}
 use Rattle.std.specs.Prelude.{codes}
 use Rattle.std.specs.Path.{slash}
-use Rattle.gtfs_cli.specs.HeldFiles.{LacksSlash, OfFile}
+use Rattle.gtfs_cli.specs.FilesInFolders.{LacksSlash, OfFile}
 
 later_lacks : (b : ℕ) (text : List ℕ) → LacksSlash (b ∷ text) → LacksSlash text
 later_lacks b text lacks i inside = lacks (suc i) (omega (arith, inside))

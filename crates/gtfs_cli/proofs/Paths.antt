@@ -3,7 +3,7 @@ use Rattle.std.proofs.Common.{◌≡◌, ℕ, ◌<◌, ◌++◌, List, [], ◌�
 use Rattle.std.specs.Prelude.{codes}
 use Rattle.std.specs.Str.Pattern.{RFindsChar}
 use Rattle.std.proofs.lemmas.Str.Pattern.{NoCharPasses-char, drop_at_char}
-use Rattle.gtfs_cli.specs.HeldFiles.{IsFileOf, LacksSlash}
+use Rattle.gtfs_cli.specs.FilesInFolders.{IsFileOf, LacksSlash}
 
 pub cut-nowhere : (path : List ℕ) → RFindsChar 47 path None → IsFileOf path (codes ".") path
 cut-nowhere path none = record { last = λ i l. NoCharPasses-char 47 path i none (omega arith) l; cut = inl (refl, refl) }

@@ -6,11 +6,11 @@ use Rattle.std.proofs.KnownBytes.{Appends-nil}
 use Rattle.gtfs_devices.specs.Device.{counted}
 use Rattle.gtfs_devices.specs.Folder.{Store}
 use Rattle.gtfs_cli.specs.Failures.{FailedNowhere}
-use Rattle.gtfs_cli.specs.Judging.{Judged}
-use Rattle.gtfs_cli.specs.Plan.{answer_of, passed, prints, Ends, IsRefusedIn, Plan}
-use Rattle.gtfs_cli.specs.Reads.{CallsFolders}
+use Rattle.gtfs_cli.specs.RefusalOrder.{Judged}
+use Rattle.gtfs_cli.specs.CommandPlan.{answer_of, passed, prints, Ends, IsRefusedIn, Plan}
+use Rattle.gtfs_cli.specs.FolderCalls.{CallsFolders}
 use Rattle.gtfs_cli.specs.Refusals.{TellsFolders, TellsOutput}
-use Rattle.gtfs_cli.specs.Seen.{Device, Output}
+use Rattle.gtfs_cli.specs.DevicesSeen.{Device, Output}
 use Rattle.gtfs_cli.specs.Sending.{joined, or_none, text_left, AreWholeLines, AreSent, Begins, IsSendingCause, IsSent, PrintsText, SendsSome}
 use Rattle.gtfs_cli.specs.declared.commands.refusal.Refusal.{Refusal}
 use Rattle.gtfs_cli.specs.declared.commands.refusal.Refusal.TheVariants.{OutputFailed, OutOfMemory}

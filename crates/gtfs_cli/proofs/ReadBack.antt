@@ -19,7 +19,7 @@ use Rattle.gtfs_rows.specs.Reading.{content_of}
 use Rattle.gtfs_rows.specs.Written.{written, written_beside}
 use Rattle.gtfs_rows.specs.WrittenForm.{IsWrittenForm}
 use Rattle.gtfs_cli.specs.MergeParts.{ReadsAs}
-use Rattle.gtfs_cli.specs.Merges.{file_text, with_files, HoldsFiles, ReadsAgain}
+use Rattle.gtfs_cli.specs.MergeCommand.{file_text, with_files, HoldsFiles, ReadsAgain}
 
 module _ (c : Content) where
   -- the files of a folder with these put there

@@ -8,10 +8,9 @@ use Rattle.gtfs_devices.specs.declared.folders.FolderFault.{FolderFault}
 use Rattle.gtfs_devices.specs.declared.folders.FolderFault.TheVariants as faults
 use Rattle.gtfs_table.proofs.FolderFacts.{calls-more}
 use Rattle.gtfs_table.proofs.StoreFacts.{on_ok-always, on_ok-map}
-use Rattle.gtfs_cli.specs.Calls.{MakesAtMost}
-use Rattle.gtfs_cli.specs.Reads.{CallsFolders, Reads}
+use Rattle.gtfs_cli.specs.FolderCalls.{MakesAtMost, CallsFolders, Reads}
 use Rattle.gtfs_cli.specs.Refusals.{TellsFolders}
-use Rattle.gtfs_cli.specs.Seen.{Device}
+use Rattle.gtfs_cli.specs.DevicesSeen.{Device}
 use Rattle.gtfs_cli.specs.declared.commands.refusal.Refusal.{Refusal}
 use Rattle.gtfs_cli.proofs.CallsMade.{at-most, few-more, last-of, no-calls, so-many}
 use Rattle.gtfs_cli.proofs.FailuresTold.{each-err, folders-kept, folders-since}

@@ -8,9 +8,9 @@ use Rattle.gtfs_rows.specs.declared.parts.Parts.{Parts}
 use Rattle.gtfs_board.specs.Board.{is_stop}
 use Rattle.gtfs_board.proofs.Opened.{stop_none, stop_some}
 use Rattle.gtfs_times.specs.declared.times.Times.{Times}
-use Rattle.gtfs_cli.specs.Requests.{fault_in, judged, stop_request, StopRequest}
-use Rattle.gtfs_cli.specs.OptionValues.{instant_at}
-use Rattle.gtfs_cli.specs.declared.commands.request_fault.RequestFault.TheVariants.{UnknownStop, UntilBeforeFrom}
+use Rattle.gtfs_cli.specs.BoardsRequests.{fault_in, judged, stop_request, StopRequest}
+use Rattle.gtfs_cli.specs.BoardOptions.{instant_at}
+use Rattle.gtfs_cli.specs.declared.commands.boards.request_fault.RequestFault.TheVariants.{UnknownStop, UntilBeforeFrom}
 
 -- the feed has the stop whose number is found, and no other
 pub has_stop : {N : Type 0} (p : Parts) (s : List ℕ) (number : N → ℕ) (o : Option N) → option_map number o ≡ position (bytes_eq s) (stop_ids p) → is_stop (content_of_parts p) s ≡ is_some o

@@ -4,7 +4,7 @@ use Rattle.std.specs.Prelude.{is_some, option_map}
 use Rattle.std.specs.List.{slice_get}
 use Rattle.std.specs.Option.{option_and_then}
 use Rattle.std.proofs.lemmas.Option.{same_Some}
-use Rattle.gtfs_cli.specs.Requests.{text_if_any, texts_in}
+use Rattle.gtfs_cli.specs.BoardsRequests.{text_if_any, texts_in}
 
 pub too_many : (fs : List (List ℕ)) → is_some (slice_get fs 5) ≡ true → None ≡ texts_in fs
 too_many [] more = refl

@@ -8,10 +8,10 @@ use Rattle.gtfs_rows.specs.Content.{Content}
 use Rattle.gtfs_rows.specs.Departures.{Origins}
 use Rattle.gtfs_board.specs.Board.{is_stop}
 use Rattle.gtfs_times.specs.declared.times.Times.{Times}
-use Rattle.gtfs_cli.specs.Requests.{all_or_first, fault_in, judged, numbered_from, onto_all, requests_in, stop_request, StopRequest}
-use Rattle.gtfs_cli.specs.OptionValues.{instant_at}
-use Rattle.gtfs_cli.specs.declared.commands.request_fault.RequestFault.{RequestFault}
-use Rattle.gtfs_cli.specs.declared.commands.request_fault.RequestFault.TheVariants.{UnknownStop, UntilBeforeFrom}
+use Rattle.gtfs_cli.specs.BoardsRequests.{all_or_first, fault_in, judged, numbered_from, onto_all, requests_in, stop_request, StopRequest}
+use Rattle.gtfs_cli.specs.BoardOptions.{instant_at}
+use Rattle.gtfs_cli.specs.declared.commands.boards.request_fault.RequestFault.{RequestFault}
+use Rattle.gtfs_cli.specs.declared.commands.boards.request_fault.RequestFault.TheVariants.{UnknownStop, UntilBeforeFrom}
 
 -- what a line asks for, and then the others
 abbrev pub then_others : Result StopRequest RequestFault → Result (List StopRequest) RequestFault → Result (List StopRequest) RequestFault

@@ -12,18 +12,17 @@ use Rattle.gtfs_rows.specs.Views.{content_of_parts}
 use Rattle.gtfs_rows.specs.declared.parts.Parts.{Parts as Feed}
 use Rattle.gtfs_times.specs.declared.times.Times.{Times}
 use Rattle.gtfs_commands.specs.Words.{ServeTexts}
-use Rattle.gtfs_cli.specs.Answers.{AnswersLine, IsAnswerPart}
-use Rattle.gtfs_cli.specs.Asked.{plan_of, Asked, HearsNothing, Board, Boards, Check, Merge, Serve, Timetable, Untaken}
-use Rattle.gtfs_cli.specs.Boards.{HoldsFeed}
+use Rattle.gtfs_cli.specs.ServeAnswers.{AnswersLine, IsAnswerPart}
+use Rattle.gtfs_cli.specs.AskedCommand.{plan_of, Asked, HearsNothing, Board, Boards, Check, Merge, Serve, Timetable, Untaken}
+use Rattle.gtfs_cli.specs.FilesInFolders.{HoldsFeed, HoldsZone}
 use Rattle.gtfs_cli.specs.Failures.{Failures}
-use Rattle.gtfs_cli.specs.HeldFiles.{HoldsZone}
-use Rattle.gtfs_cli.specs.Options.{times_of}
-use Rattle.gtfs_cli.specs.Plan.{answer_of, Ends, IsRefusedIn}
-use Rattle.gtfs_cli.specs.Reads.{CallsFolders}
+use Rattle.gtfs_cli.specs.SharedOptions.{times_of}
+use Rattle.gtfs_cli.specs.CommandPlan.{answer_of, Ends, IsRefusedIn}
+use Rattle.gtfs_cli.specs.FolderCalls.{CallsFolders}
 use Rattle.gtfs_cli.specs.Refusals.{status_in}
-use Rattle.gtfs_cli.specs.Seen.{Device, Devices, Output as Told, Talk}
+use Rattle.gtfs_cli.specs.DevicesSeen.{Device, Devices, Output as Told, Talk}
 use Rattle.gtfs_cli.specs.Sending.{IsSendingCause, SendsSome}
-use Rattle.gtfs_cli.specs.Serving.{serve_judges, serve_plan, Converses, ConversesUntil, IsHearingCause, ServeSetting, ServesUntil}
+use Rattle.gtfs_cli.specs.ServeCommand.{serve_judges, serve_plan, Converses, ConversesUntil, IsHearingCause, ServeSetting, ServesUntil}
 use Rattle.gtfs_cli.specs.declared.commands.refusal.Refusal.{Refusal}
 use Rattle.gtfs_cli.specs.declared.commands.refusal.Refusal.TheVariants.{InputFailed, OutputFailed, OutOfMemory}
 use Rattle.gtfs_cli.proofs.BoardParts.{has-passing}

@@ -15,13 +15,13 @@ use Rattle.gtfs_board.specs.Timetable.{is_route, sheet_text, sheets, Sheet as Sh
 use Rattle.gtfs_times.specs.Filling.{timed}
 use Rattle.gtfs_board.specs.declared.sheet.Sheet.{Sheet}
 use Rattle.gtfs_commands.specs.Words.{TimetableTexts}
-use Rattle.gtfs_cli.specs.Boards.{HoldsFeed}
+use Rattle.gtfs_cli.specs.FilesInFolders.{HoldsFeed}
 use Rattle.gtfs_cli.specs.Failures.{FailedNowhere, Failures}
-use Rattle.gtfs_cli.specs.Plan.{IsRefusedIn}
-use Rattle.gtfs_cli.specs.Seen.{Output}
+use Rattle.gtfs_cli.specs.CommandPlan.{IsRefusedIn}
+use Rattle.gtfs_cli.specs.DevicesSeen.{Output}
 use Rattle.gtfs_cli.specs.Sending.{text_left, AreFirst, Begins, IsSendingCause, IsSent, PrintsText, SendsSome}
 use Rattle.gtfs_cli.specs.TimetableOptions.{first_bad_timetable, IsTimetableRequest, TimetableRequest}
-use Rattle.gtfs_cli.specs.Timetables.{timetable_judges, timetable_text, AreFirstSheets, AreSheets, IsRouteCause, IsSheetsCause, IsTimetablePart, IsTimetableText, TimetableSetting}
+use Rattle.gtfs_cli.specs.TimetableCommand.{timetable_judges, timetable_text, AreFirstSheets, AreSheets, IsRouteCause, IsSheetsCause, IsTimetablePart, IsTimetableText, TimetableSetting}
 use Rattle.gtfs_cli.specs.declared.commands.refusal.Refusal.{Refusal}
 use Rattle.gtfs_cli.specs.declared.commands.refusal.Refusal.TheVariants.{UnknownRoute, OutputFailed, OutOfMemory}
 use Rattle.gtfs_cli.proofs.BoardParts.{has-passing}

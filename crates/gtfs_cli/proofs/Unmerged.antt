@@ -11,16 +11,16 @@ use Rattle.gtfs_merge.specs.Merged.{is_too_large, zone_texts_differ}
 use Rattle.gtfs_merge.specs.Merging.{IsMergeOf, KeepsDepartures}
 use Rattle.gtfs_merge.specs.declared.merging.Merged.{Merged}
 use Rattle.gtfs_commands.specs.Words.{MergeTexts}
-use Rattle.gtfs_cli.specs.Boards.{HoldsFeed}
+use Rattle.gtfs_cli.specs.FilesInFolders.{HoldsFeed}
 use Rattle.gtfs_cli.specs.Failures.{FailedNowhere, Failures}
 use Rattle.gtfs_cli.specs.MergeOptions.{first_bad_merge, IsMergeRequest, MergeRequest}
 use Rattle.gtfs_cli.specs.MergeParts.{HoldsMerge}
-use Rattle.gtfs_cli.specs.Merges.{file_limit, merge_judges, merge_of, merge_plan, report_for, HoldsFiles, IsFolderMerge, IsFoldersCause, IsMerged, IsMergeFault, IsMergingCause, IsWritingCause, IsWritingEnd, MergeLeaves, MergeSetting, ReadsAgain}
-use Rattle.gtfs_cli.specs.NamesReport.{names_report}
-use Rattle.gtfs_cli.specs.Plan.{answer_of, Ends, IsRefusedIn}
-use Rattle.gtfs_cli.specs.Reads.{CallsFolders}
-use Rattle.gtfs_cli.specs.Refusals.{IsReadingCause}
-use Rattle.gtfs_cli.specs.Seen.{Device, Output}
+use Rattle.gtfs_cli.specs.MergeCommand.{file_limit, merge_judges, merge_of, merge_plan, report_for, HoldsFiles, IsFolderMerge, IsFoldersCause, IsMerged, IsMergeFault, IsMergingCause, IsWritingCause, IsWritingEnd, MergeLeaves, MergeSetting, ReadsAgain}
+use Rattle.gtfs_cli.specs.MergeReport.{names_report}
+use Rattle.gtfs_cli.specs.CommandPlan.{answer_of, Ends, IsRefusedIn}
+use Rattle.gtfs_cli.specs.FolderCalls.{CallsFolders}
+use Rattle.gtfs_cli.specs.ReadingCauses.{IsReadingCause}
+use Rattle.gtfs_cli.specs.DevicesSeen.{Device, Output}
 use Rattle.gtfs_cli.specs.Sending.{IsSendingCause, IsSent}
 use Rattle.gtfs_cli.specs.declared.commands.refusal.Refusal.{Refusal}
 use Rattle.gtfs_cli.specs.declared.commands.refusal.Refusal.TheVariants.{ZonesDiffer, MergeTooLarge, Unwritable, OutputFailed, OutOfMemory}

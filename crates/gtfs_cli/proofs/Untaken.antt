@@ -8,12 +8,12 @@ use Rattle.gtfs_devices.specs.Folder.{Store}
 use Rattle.gtfs_table.proofs.FolderFacts.{calls-none}
 use Rattle.gtfs_commands.specs.Words.{gtfs_app, AreForHelpOrVersion, IsFaultOf}
 use Rattle.gtfs_commands.specs.declared.fault.WordsFault.{WordsFault}
-use Rattle.gtfs_cli.specs.Asked.{plan_of, words_plan, Asked, Asks, Board, Boards, Check, IsAnswer, IsWordsCause, Merge, Serve, Timetable, Untaken}
-use Rattle.gtfs_cli.specs.Plan.{Ends}
+use Rattle.gtfs_cli.specs.AskedCommand.{plan_of, Asked, Asks, Board, Boards, Check, Merge, Serve, Timetable, Untaken}
+use Rattle.gtfs_cli.specs.UntakenWords.{words_plan, IsAnswer, IsWordsCause, text_for_output}
+use Rattle.gtfs_cli.specs.CommandPlan.{Ends}
 use Rattle.gtfs_cli.specs.Refusals.{TellsOutput}
-use Rattle.gtfs_cli.specs.Seen.{Device, Output, Talk}
+use Rattle.gtfs_cli.specs.DevicesSeen.{Device, Output, Talk}
 use Rattle.gtfs_cli.specs.Sending.{or_none, Begins, PrintsText}
-use Rattle.gtfs_cli.specs.UntakenWords.{text_for_output}
 use Rattle.gtfs_cli.specs.declared.commands.refusal.Refusal.{Refusal}
 use Rattle.gtfs_cli.specs.declared.commands.refusal.Refusal.TheVariants.{OutOfMemory, OutputFailed}
 use Rattle.gtfs_cli.proofs.Parts.{appends-nothing, some-sent}

@@ -9,11 +9,11 @@ use Rattle.gtfs_days.proofs.SameZones.{zones_one}
 use Rattle.jiff_tz.specs.Tzif as Table
 use Rattle.gtfs_devices.specs.Device.{Rises}
 use Rattle.gtfs_devices.specs.Folder.{file_in, Files, Finds, HasFileOver, LacksFolder, Store}
-use Rattle.gtfs_cli.specs.FileRead.{HoldsSomeZone, IsPathCause, IsZoneCause}
-use Rattle.gtfs_cli.specs.HeldFiles.{FitsZone, HasBytes, HoldsBytes, HoldsFile, HoldsNoZone, HoldsZone, LacksFile, NamesNoFile}
-use Rattle.gtfs_cli.specs.Judging.{zone}
-use Rattle.gtfs_cli.specs.ManyBoards.{request_file}
-use Rattle.gtfs_cli.specs.Messages.{line_of}
+use Rattle.gtfs_cli.specs.FilesInFolders.{HoldsSomeZone, FitsZone, HasBytes, HoldsBytes, HoldsFile, HoldsNoZone, HoldsZone, LacksFile, NamesNoFile}
+use Rattle.gtfs_cli.specs.ReadingCauses.{IsPathCause, IsZoneCause}
+use Rattle.gtfs_cli.specs.RefusalOrder.{zone}
+use Rattle.gtfs_cli.specs.BoardsCommand.{request_file}
+use Rattle.gtfs_cli.specs.RefusalMessages.{line_of}
 use Rattle.gtfs_cli.specs.Outcomes.{IsPlainRefusal}
 use Rattle.gtfs_cli.specs.declared.commands.refusal.Refusal.{Refusal}
 use Rattle.gtfs_cli.specs.declared.commands.refusal.Refusal.TheVariants.{NotThere, Unreadable, OverLimit, NoZone, OutOfMemory}

@@ -8,7 +8,7 @@ use Rattle.gtfs_advice.specs.Advice.{day, nothing, row, About}
 use Rattle.gtfs_advice.specs.Codes.{advice_name, advice_rank, advice_text, file_of}
 use Rattle.gtfs_advice.specs.declared.code.Code.{Code}
 use Rattle.gtfs_cli.specs.CheckLines.{count_shown}
-use Rattle.gtfs_cli.specs.Firsts.{firsts}
+use Rattle.gtfs_cli.specs.FirstOfEachKind.{firsts}
 
 -- a row's id, a date, or a dash
 abbrev pub about_text : About → List ℕ

@@ -9,7 +9,7 @@ use Rattle.gtfs_schema.specs.Problems.{kept, name_bytes, other, problem_cmp, Fil
 use Rattle.gtfs_schema.specs.Values.{plain}
 use Rattle.gtfs_commands.specs.Words.{CheckTexts}
 use Rattle.gtfs_rules.specs.Report.{problem_line}
-use Rattle.gtfs_cli.specs.Firsts.{firsts}
+use Rattle.gtfs_cli.specs.FirstOfEachKind.{firsts}
 
 -- ---- the value of a problem
 

@@ -4,7 +4,7 @@ use Rattle.std.specs.Result.{result_ok}
 use Rattle.clap.specs.Words.{Text}
 use Rattle.gtfs_field.specs.Kinds.{count_of}
 use Rattle.gtfs_commands.specs.Words.{MergeTexts}
-use Rattle.gtfs_cli.specs.Options.{day_if_given, first_of_bad}
+use Rattle.gtfs_cli.specs.SharedOptions.{day_if_given, first_of_bad}
 
 -- up to how many millionths of a degree apart stops become one, if they do; its text has to be a count
 abbrev pub near_of : Option Text → Option (Option ℕ)

@@ -10,9 +10,9 @@ use Rattle.gtfs_rows.specs.Views.{content_of_parts}
 use Rattle.gtfs_merge.specs.declared.merging.Merged.{Merged}
 use Rattle.gtfs_commands.specs.Words.{MergeTexts}
 use Rattle.gtfs_cli.specs.MergeOptions.{MergeRequest}
-use Rattle.gtfs_cli.specs.Merges.{file_text, IsFolderMerge}
-use Rattle.gtfs_cli.specs.NamesReport.{names_report}
-use Rattle.gtfs_cli.specs.declared.commands.merge_values.MergeRequest.{MergeRequest as LentRequest}
+use Rattle.gtfs_cli.specs.MergeCommand.{file_text, IsFolderMerge}
+use Rattle.gtfs_cli.specs.MergeReport.{names_report}
+use Rattle.gtfs_cli.specs.declared.commands.merge.options.MergeRequest.{MergeRequest as LentRequest}
 
 -- the request that values are
 abbrev pub merge_request_of : LentRequest → MergeRequest

@@ -4,11 +4,11 @@ use Rattle.std.specs.Io.KnownBytes.{Appends}
 use Rattle.gtfs_devices.specs.Device.{Rises}
 use Rattle.gtfs_devices.specs.Folder.{Store}
 use Rattle.gtfs_cli.specs.Failures.{Failures}
-use Rattle.gtfs_cli.specs.Judging.{Judged}
-use Rattle.gtfs_cli.specs.Messages.{message}
-use Rattle.gtfs_cli.specs.Plan.{failures_of, Plan}
+use Rattle.gtfs_cli.specs.RefusalOrder.{Judged}
+use Rattle.gtfs_cli.specs.RefusalMessages.{message}
+use Rattle.gtfs_cli.specs.CommandPlan.{failures_of, Plan}
 use Rattle.gtfs_cli.specs.Refusals.{status_of}
-use Rattle.gtfs_cli.specs.Seen.{Devices, Output}
+use Rattle.gtfs_cli.specs.DevicesSeen.{Devices, Output}
 use Rattle.gtfs_cli.specs.Sending.{Sends}
 use Rattle.gtfs_cli.specs.declared.commands.refusal.Refusal.{Refusal}
 use Rattle.gtfs_cli.specs.declared.commands.refusal.Refusal.TheVariants.{OutOfMemory}

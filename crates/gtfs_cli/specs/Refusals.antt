@@ -1,15 +1,9 @@
--- Why a command was not done: each refusal, its status and when it comes.
-use Rattle.std.specs.Prelude.{◌≡◌, ◌<◌, ◌^◌, ℕ, Bool, true, cond, List, Option, Result, Ok, Err, unsigned_abs, ⊤}
-use Rattle.gtfs_days.specs.Service.{is_service_day}
-use Rattle.gtfs_devices.specs.Device.{Rises}
-use Rattle.gtfs_devices.specs.Folder.{Store}
-use Rattle.gtfs_cli.specs.HeldFiles.{HoldsErrors, HoldsKeptFile, LacksFeed}
-use Rattle.gtfs_cli.specs.declared.commands.moments.Moment.{Moment}
-use Rattle.gtfs_cli.specs.declared.commands.moments.Moment.TheVariants.{Instant, ServiceDay}
+-- Why a command was not done: of each refusal its status, and which devices may have failed where it is told.
+use Rattle.std.specs.Prelude.{◌≡◌, ℕ, Bool, cond, Result, Ok, Err, ⊤}
 use Rattle.gtfs_cli.specs.declared.commands.refusal.Refusal.{Refusal}
 use Rattle.gtfs_cli.specs.declared.commands.refusal.Refusal.TheVariants.{Words, BadValue, DayWithoutAdvice, NotThere, Unreadable, OverLimit, HasErrors, NoZone, UnknownStop, UnknownRoute, UntilBeforeFrom, ZonesDiffer, MergeTooLarge, Unwritable, Line, InputFailed, OutputFailed, OutOfMemory}
-use Rattle.gtfs_cli.specs.declared.commands.request_fault.RequestFault.{RequestFault}
-use Rattle.gtfs_cli.specs.declared.commands.request_fault.RequestFault.TheVariants as requests
+use Rattle.gtfs_cli.specs.declared.commands.boards.request_fault.RequestFault.{RequestFault}
+use Rattle.gtfs_cli.specs.declared.commands.boards.request_fault.RequestFault.TheVariants as requests
 
 -- the status for the line of a file of requests that is at fault
 abbrev pub request_status : RequestFault → ℕ
@@ -54,24 +48,3 @@ TellsFolders before after _ = after ≡ before
 abbrev pub TellsOutput : ℕ → ℕ → Refusal → Type 0
 TellsOutput before after OutputFailed = ⊤
 TellsOutput before after _ = after ≡ before
-
--- ---- when a refusal comes
-
--- when a refusal comes where the tables of a folder are to be read, and that it names that folder; the counts are those of the folders'
--- failures, before and after
-abbrev pub IsTablesCause : ℕ → Option Store → List ℕ → ℕ → ℕ → Refusal → Type 0
-IsTablesCause limit held dir before after (NotThere path) = (path.now ≡ dir) × LacksFeed held dir
-IsTablesCause limit held dir before after (Unreadable path) = (path.now ≡ dir) × Rises before after
-IsTablesCause limit held dir before after (OverLimit path) = (path.now ≡ dir) × HoldsKeptFile limit held dir
-IsTablesCause limit held dir before after OutOfMemory = after ≡ before
-IsTablesCause limit held dir before after _ = ⊥
-
--- and where its feed is
-abbrev pub IsReadingCause : ℕ → Option Store → List ℕ → ℕ → ℕ → Refusal → Type 0
-IsReadingCause limit held dir before after (HasErrors path) = (path.now ≡ dir) × HoldsErrors limit held dir
-IsReadingCause limit held dir before after refusal = IsTablesCause limit held dir before after refusal
-
--- an instant of at most twelve digits, or a service day
-abbrev pub IsSound : Moment → Type 0
-IsSound (Instant x) = unsigned_abs x < 10 ^ 12
-IsSound (ServiceDay d) = is_service_day d ≡ true

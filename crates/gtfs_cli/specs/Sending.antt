@@ -6,7 +6,7 @@ use Rattle.gtfs_devices.specs.Device.{counted, Rises}
 use Rattle.gtfs_cli.specs.Refusals.{TellsOutput}
 use Rattle.gtfs_cli.specs.declared.commands.refusal.Refusal.{Refusal}
 use Rattle.gtfs_cli.specs.declared.commands.refusal.Refusal.TheVariants.{OutputFailed, OutOfMemory}
-pub use Rattle.gtfs_cli.specs.Seen.{Output}
+pub use Rattle.gtfs_cli.specs.DevicesSeen.{Output}
 
 -- a beginning of a text went out
 pub record SendsBeginning (before after : Option (List ℕ)) (text : List ℕ) : Type 0 where

@@ -5,7 +5,7 @@ use Rattle.clap.specs.Words.{Text}
 use Rattle.gtfs_field.specs.Kinds.{date_of}
 use Rattle.gtfs_times.specs.declared.times.Times.{Times}
 use Rattle.gtfs_commands.specs.Words.{TimetableTexts}
-use Rattle.gtfs_cli.specs.Options.{first_of_bad, times_of}
+use Rattle.gtfs_cli.specs.SharedOptions.{first_of_bad, times_of}
 
 -- the direction of the trips, if one is given; its text has to be 0 or 1
 abbrev pub direction_of : Option Text → Option (Option ℕ)

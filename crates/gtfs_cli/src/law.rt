@@ -3,11 +3,11 @@ ghost use Rattle.std.specs.Prelude.{◌≡◌, ℕ, true, List, Some};
 ghost use Rattle.clap.specs.Words.{Text, takes};
 ghost use Rattle.gtfs_devices.specs.Folder.{Store};
 ghost use Rattle.gtfs_commands.specs.Words.{gtfs_app, ServeTexts};
-ghost use Rattle.gtfs_cli.specs.Asked.{plan_of, Asked, Asks, HearsNothing};
+ghost use Rattle.gtfs_cli.specs.AskedCommand.{plan_of, Asked, Asks, HearsNothing};
 ghost use Rattle.gtfs_cli.specs.Outcomes.{EndsAsOne, IsOutcome, IsUnhindered, Outcome};
-ghost use Rattle.gtfs_cli.specs.Plan.{IsRun};
-ghost use Rattle.gtfs_cli.specs.Seen.{Devices, Output, Talk};
-ghost use Rattle.gtfs_cli.specs.Serving.{IsWhollyServed};
+ghost use Rattle.gtfs_cli.specs.CommandPlan.{IsRun};
+ghost use Rattle.gtfs_cli.specs.DevicesSeen.{Devices, Output, Talk};
+ghost use Rattle.gtfs_cli.specs.ServeCommand.{IsWhollyServed};
 
 /// A law of commands, which its contract states: words ask for one thing, and where it is a command
 /// other than `serve`, it has one outcome over the same folders, where they and the output work and

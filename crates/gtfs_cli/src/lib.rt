@@ -64,13 +64,13 @@
 #![tactic(auto)]
 
 mod commands;
-mod ending;
+mod devices_seen;
 mod fault;
 mod law;
+mod program_end;
 mod report;
-mod seen;
 
 pub use commands::{run, run_with_input};
-pub use ending::{close, tell};
 pub use fault::Fault;
 pub use law::{conversations_are_one, outcomes_are_one, runs_end_with_outcomes};
+pub use program_end::{close, tell};

@@ -5,7 +5,7 @@ use Rattle.gtfs_table.specs.declared.file.File.TheVariants as file
 use Rattle.gtfs_schema.specs.declared.code.Code.TheVariants as code
 use Rattle.gtfs_schema.specs.Problems.{Problem, kept, other}
 use Rattle.gtfs_rules.specs.Report.{counts_line, problem_line, report_text}
-use Rattle.gtfs_cli.specs.Messages.{line_of}
+use Rattle.gtfs_cli.specs.RefusalMessages.{line_of}
 
 abbrev of_a_field : Problem
 of_a_field = record { file = kept file.StopTimes; row = 3; code = code.E07; column = codes "arrival_time" }

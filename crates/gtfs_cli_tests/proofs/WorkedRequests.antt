@@ -2,7 +2,7 @@
 use Rattle.std.proofs.Common.{◌≡◌, ◌++◌, ℕ, pos, [], ◌∷◌, codes, refl, true, false, Some, None, Ok, Err}
 use Rattle.std.specs.Prelude.{List, Option}
 use Rattle.gtfs_table.specs.Tables as tables
-use Rattle.gtfs_cli.specs.Requests.{request_heading, numbered_lines, request_texts, RequestTexts}
+use Rattle.gtfs_cli.specs.BoardsRequests.{request_heading, numbered_lines, request_texts, RequestTexts}
 
 -- LF and CRLF end lines, the last line has neither; the second line is empty and is counted
 three_lines : numbered_lines (codes "a" ++ 10 ∷ 13 ∷ 10 ∷ codes "b" ++ 13 ∷ 10 ∷ codes "c") ≡ (1, codes "a") ∷ (3, codes "b") ∷ (4, codes "c") ∷ []

@@ -2,15 +2,19 @@ ghost use Rattle.std.specs.Prelude.{◌≡◌, IfErr, IfOk};
 ghost use Rattle.gtfs_rows.specs.Views.{content_of_parts};
 ghost use Rattle.gtfs_board.specs.Page.{IsCutShort, IsPage, IsStopped};
 ghost use Rattle.gtfs_commands.specs.Words.{texts_of};
-ghost use Rattle.gtfs_cli.specs.Boards.{board_plan, request_of, AreValues, IsOpeningCause, IsTextOf, ListsBoard, PrintsPage};
-ghost use Rattle.gtfs_cli.specs.Plan.{answer_of, Ends};
+ghost use Rattle.gtfs_cli.specs.BoardCommand.{board_plan, IsOpeningCause, IsTextOf, ListsBoard, PrintsPage};
+ghost use Rattle.gtfs_cli.specs.LentBoardRequests.{board_request_of, AreBoardValues};
+ghost use Rattle.gtfs_cli.specs.CommandPlan.{answer_of, Ends};
 ghost use Rattle.gtfs_cli.specs.Sending.{or_none, PrintsText};
 
+mod options;
+
+use crate::commands::board::options::read_board_values;
+pub(crate) use crate::commands::board::options::{BoardRequest, RequestTexts, read_request_values};
 use crate::commands::feed::read_feed;
 use crate::commands::refusal::Refusal;
-use crate::commands::values::{Request, read_values};
 use crate::commands::zone_file::read_zone;
-use crate::seen::{DevicesSeen, OutSeen};
+use crate::devices_seen::{DevicesSeen, OutSeen};
 use gtfs_board::{Board, BoardFault, Feed, PageFault, Span, write_page};
 use gtfs_commands::BoardTexts;
 use gtfs_days::Zone;
@@ -22,7 +26,7 @@ use std::hash::RandomState;
 // Errors: In the order in which they are judged: `BadValue`; `NotThere`, `Unreadable`, `OverLimit`
 // and `HasErrors` of the feed's folder; the first three and `NoZone` of the zone file;
 // `UnknownStop`; `UntilBeforeFrom`; `OutputFailed` at any line. `OutOfMemory` at any point.
-pub(super) fn print_board<'w, F: Folders, O: Out>(
+pub(crate) fn print_board<'w, F: Folders, O: Out>(
     alloc: Global,
     random: RandomState,
     words: &BoardTexts<'w>,
@@ -33,7 +37,7 @@ pub(super) fn print_board<'w, F: Folders, O: Out>(
         (⟦<(F, O) as DevicesSeen>⟧.seen (folders.old, out.old))
         (⟦<(F, O) as DevicesSeen>⟧.seen (folders.new, out.new)) (answer_of result) }
 {
-    let values = read_values(words)?;
+    let values = read_board_values(words)?;
     let feed = read_feed(alloc, random, folders, words.dir)?;
     let zone = read_zone(alloc, folders, words.zone)?;
     print_lines(alloc, &feed, &zone, words, &values, out)
@@ -46,11 +50,11 @@ fn print_lines<'w, O: Out>(
     feed: &Feed,
     zone: &Zone,
     words: &BoardTexts<'w>,
-    values: &Request<'w>,
+    values: &BoardRequest<'w>,
     out: &mut O,
 ) -> Result<(), Refusal<'w>>
-    requires { AreValues (texts_of words.now) values.now }
-    ensures { let f = content_of_parts feed.now in let r = request_of values.now in PrintsText
+    requires { AreBoardValues (texts_of words.now) values.now }
+    ensures { let f = content_of_parts feed.now in let r = board_request_of values.now in PrintsText
         (IsTextOf IsPage f zone.now words.now.stop.now r)
         (IsTextOf IsCutShort f zone.now words.now.stop.now r)
         (or_none (IsTextOf IsStopped f zone.now words.now.stop.now r))
@@ -63,7 +67,7 @@ fn print_lines<'w, O: Out>(
 
 // Prints a page of a board: at most so many lines, each sent out whole before the next is looked
 // for.
-pub(super) fn print_page<'w, O: Out>(
+pub(crate) fn print_page<'w, O: Out>(
     alloc: Global,
     board: &mut Board<'_>,
     limit: u64,
@@ -85,15 +89,15 @@ fn open<'a, 'w>(
     feed: &'a Feed,
     zone: &'a Zone,
     words: &BoardTexts<'w>,
-    values: &Request<'w>,
+    values: &BoardRequest<'w>,
 ) -> Result<Board<'a>, Refusal<'w>>
-    requires { AreValues (texts_of words.now) values.now }
+    requires { AreBoardValues (texts_of words.now) values.now }
     ensures board { IfOk result (λ board. ListsBoard (content_of_parts feed.now) zone.now
-        words.now.stop.now (request_of values.now) board.rest) }
+        words.now.stop.now (board_request_of values.now) board.rest) }
     ensures zone { IfOk result (λ board. board.zone ≡ zone.now) }
     ensures refused { IfErr result (IsOpeningCause
         (content_of_parts feed.now) zone.now words.now.stop.now
-        (request_of values.now)) }
+        (board_request_of values.now)) }
 {
     let span = Span {
         from: values.from.instant(alloc, zone)?,

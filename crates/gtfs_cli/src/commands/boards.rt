@@ -3,26 +3,32 @@ ghost use Rattle.gtfs_days.specs.Zone.{zone_origin};
 ghost use Rattle.gtfs_rows.specs.Content.{Content};
 ghost use Rattle.gtfs_rows.specs.Views.{content_of_parts};
 ghost use Rattle.gtfs_commands.specs.Words.{boards_texts_of};
-ghost use Rattle.gtfs_cli.specs.Boards.{request_of, ListsBoard};
-ghost use Rattle.gtfs_cli.specs.LentRequests.{request_texts_of, stop_request_of};
-ghost use Rattle.gtfs_cli.specs.ManyBoards.{boards_plan, of_utf8, AreAllBoards, BeginsBoard, BeginsWhole, IsFileFault, IsOneText, IsRequestsFault, StopsInAll};
-ghost use Rattle.gtfs_cli.specs.Options.{times_of};
-ghost use Rattle.gtfs_cli.specs.Plan.{answer_of, Ends};
-ghost use Rattle.gtfs_cli.specs.Refusals.{IsSound};
-ghost use Rattle.gtfs_cli.specs.Requests.{fault_in, request_heading, numbered_from, requests_in, requests_of};
+ghost use Rattle.gtfs_cli.specs.LentBoardRequests.{board_request_of, request_texts_of, stop_request_of};
+ghost use Rattle.gtfs_cli.specs.BoardCommand.{ListsBoard};
+ghost use Rattle.gtfs_cli.specs.BoardsCommand.{boards_plan, of_utf8, AreAllBoards, BeginsBoard, BeginsWhole, IsFileFault, IsOneText, IsRequestsFault, StopsInAll};
+ghost use Rattle.gtfs_cli.specs.SharedOptions.{times_of};
+ghost use Rattle.gtfs_cli.specs.CommandPlan.{answer_of, Ends};
+ghost use Rattle.gtfs_cli.specs.BoardOptions.{IsSound};
+ghost use Rattle.gtfs_cli.specs.BoardsRequests.{fault_in, request_heading, numbered_from, requests_in, requests_of};
 ghost use Rattle.gtfs_cli.specs.Sending.{or_none, PrintsText};
 
-use crate::commands::board::print_page;
+mod opening;
+mod request_fault;
+mod request_lines;
+mod requests;
+
+use crate::commands::board::{RequestTexts, print_page};
+pub(crate) use crate::commands::boards::opening::open_request;
+pub(crate) use crate::commands::boards::request_fault::RequestFault;
+use crate::commands::boards::request_lines::{lines_of, text_of};
+use crate::commands::boards::requests::first_fault;
+pub(crate) use crate::commands::boards::requests::{StopRequest, field, read_request, text_if_any};
 use crate::commands::feed::read_feed;
 use crate::commands::files::read_file;
-use crate::commands::opening::open_request;
+use crate::commands::options::read_times;
 use crate::commands::refusal::Refusal;
-use crate::commands::request_lines::{lines_of, text_of};
-use crate::commands::requests::{StopRequest, first_fault, read_request};
-use crate::commands::times::read_times;
-use crate::commands::values::RequestTexts;
 use crate::commands::zone_file::read_zone;
-use crate::seen::{DevicesSeen, OutSeen};
+use crate::devices_seen::{DevicesSeen, OutSeen};
 use gtfs_board::{Board, Feed, StopIndex, Times};
 use gtfs_commands::BoardsTexts;
 use gtfs_days::Zone;
@@ -36,7 +42,7 @@ use std::hash::RandomState;
 // `HasErrors` of the feed's folder; the first three and `NoZone` of the zone file; the first
 // three of the file of requests; `Line` of the first line that is refused; `OutputFailed` at any
 // board. `OutOfMemory` at any point.
-pub(super) fn print_boards<'w, F: Folders, O: Out>(
+pub(crate) fn print_boards<'w, F: Folders, O: Out>(
     alloc: Global,
     random: RandomState,
     words: &BoardsTexts<'w>,
@@ -164,7 +170,7 @@ fn open_judged<'a>(
     requires from { IsSound request.now.values.from }
     requires until { IsSound request.now.values.until }
     ensures board { IfOk result (λ board. ListsBoard (content_of_parts index.now.feed) zone.now
-        request.now.texts.stop.now (request_of request.now.values) board.rest) }
+        request.now.texts.stop.now (board_request_of request.now.values) board.rest) }
     ensures zone { IfOk result (λ board. board.zone ≡ zone.now) }
 {
     match open_request(alloc, index, zone, request) {

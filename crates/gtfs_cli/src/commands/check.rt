@@ -8,22 +8,26 @@ ghost use Rattle.gtfs_rows.specs.Views.{content_of_parts};
 ghost use Rattle.gtfs_commands.specs.Words.{check_texts_of};
 ghost use Rattle.gtfs_cli.specs.AdviceLines.{advised_text};
 ghost use Rattle.gtfs_cli.specs.CheckLines.{counts_text, problem_lines};
-ghost use Rattle.gtfs_cli.specs.CheckOptions.{judged_check, lacks_advise, IsLack};
-ghost use Rattle.gtfs_cli.specs.Checking.{check_plan};
-ghost use Rattle.gtfs_cli.specs.Judging.{IsFirstBad};
-ghost use Rattle.gtfs_cli.specs.LentChecks.{lines_after, IsBegun, IsUnread};
-ghost use Rattle.gtfs_cli.specs.Options.{day_if_given};
-ghost use Rattle.gtfs_cli.specs.Plan.{Ends};
+ghost use Rattle.gtfs_cli.specs.CheckOptions.{judged_check, lacks_advise, IsLack, IsUnread};
+ghost use Rattle.gtfs_cli.specs.CheckCommand.{check_plan};
+ghost use Rattle.gtfs_cli.specs.RefusalOrder.{IsFirstBad};
+ghost use Rattle.gtfs_cli.specs.RestOfCheck.{lines_after, IsBegun};
+ghost use Rattle.gtfs_cli.specs.SharedOptions.{day_if_given};
+ghost use Rattle.gtfs_cli.specs.CommandPlan.{Ends};
 ghost use Rattle.gtfs_cli.specs.Sending.{AreSent};
 
-use crate::commands::advice::print_advice;
+mod kind_counts;
+mod printed_advice;
+mod printed_problems;
+
+use crate::commands::check::printed_advice::print_advice;
+use crate::commands::check::printed_problems::print_lines;
 use crate::commands::folder::read_tables;
-use crate::commands::moments::read_day_if_given;
-use crate::commands::problems::print_lines;
+use crate::commands::options::read_day_if_given;
 use crate::commands::refusal::Refusal;
 use crate::commands::send::send;
+use crate::devices_seen::{DevicesSeen, OutSeen};
 use crate::report::{push_advised, push_counts};
-use crate::seen::{DevicesSeen, OutSeen};
 use gtfs_commands::CheckTexts;
 use gtfs_feed::FeedDraft;
 use gtfs_field::{Day, OutOfMemory};
@@ -38,7 +42,7 @@ use std::hash::RandomState;
 // Errors: In the order in which they are judged: `DayWithoutAdvice`, `BadValue`; `NotThere`,
 // `Unreadable` and `OverLimit` of the folder; `OutputFailed` at any line. `OutOfMemory` at any
 // point.
-pub(super) fn print_report<'w, F: Folders, O: Out>(
+pub(crate) fn print_report<'w, F: Folders, O: Out>(
     alloc: Global,
     random: RandomState,
     words: &CheckTexts<'w>,

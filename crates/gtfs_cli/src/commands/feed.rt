@@ -1,11 +1,11 @@
 ghost use Rattle.std.specs.Prelude.{IfOk, IfErr};
-ghost use Rattle.gtfs_cli.specs.Boards.{HoldsFeed, IsFeedCause, IsFeedOf};
-ghost use Rattle.gtfs_cli.specs.Reads.{Reads};
-ghost use Rattle.gtfs_cli.specs.Refusals.{IsReadingCause};
+ghost use Rattle.gtfs_cli.specs.FilesInFolders.{HoldsFeed, IsFeedOf};
+ghost use Rattle.gtfs_cli.specs.ReadingCauses.{IsFeedCause, IsReadingCause};
+ghost use Rattle.gtfs_cli.specs.FolderCalls.{Reads};
 
 use crate::commands::folder::read_tables;
 use crate::commands::refusal::Refusal;
-use crate::seen::FoldersSeen;
+use crate::devices_seen::FoldersSeen;
 use gtfs_board::Feed;
 use gtfs_feed::FeedDraft;
 use gtfs_rules::check;
@@ -15,7 +15,7 @@ use std::hash::RandomState;
 
 // The feed of a folder, whose tables are let go before the stop times of the feed are moved.
 // Errors: `NotThere`, `Unreadable`, `OverLimit`, `HasErrors` and `OutOfMemory`.
-pub(super) fn read_feed<'w, F: Folders>(
+pub(crate) fn read_feed<'w, F: Folders>(
     alloc: Global,
     random: RandomState,
     folders: &mut F,
@@ -35,7 +35,7 @@ pub(super) fn read_feed<'w, F: Folders>(
 // A draft of the feed of a folder. The fields of stop_times.txt lie in the memory of these bytes
 // meanwhile, which is given back with nothing in it.
 // Errors: Those of `read_feed`.
-pub(super) fn read_draft<'w, F: Folders>(
+pub(crate) fn read_draft<'w, F: Folders>(
     alloc: Global,
     random: RandomState,
     folders: &mut F,

@@ -1,18 +1,18 @@
 ghost use Rattle.std.specs.Prelude.{IfOk, IfErr};
-ghost use Rattle.gtfs_cli.specs.FileRead.{IsPathCause};
-ghost use Rattle.gtfs_cli.specs.HeldFiles.{HoldsBytes};
-ghost use Rattle.gtfs_cli.specs.Reads.{Reads};
+ghost use Rattle.gtfs_cli.specs.ReadingCauses.{IsPathCause};
+ghost use Rattle.gtfs_cli.specs.FilesInFolders.{HoldsBytes};
+ghost use Rattle.gtfs_cli.specs.FolderCalls.{Reads};
 
 use crate::commands::folder::of_folder;
 use crate::commands::paths::cut_path;
 use crate::commands::refusal::Refusal;
-use crate::seen::FoldersSeen;
+use crate::devices_seen::FoldersSeen;
 use gtfs_table::Folders;
 use std::alloc::Global;
 
 // The bytes of the file of a path, no more than the folders' limit. A path that ends in `/` names
 // no file. Errors: `NotThere`, `Unreadable`, `OverLimit` and `OutOfMemory`.
-pub(super) fn read_file<'w, F: Folders>(
+pub(crate) fn read_file<'w, F: Folders>(
     alloc: Global,
     folders: &mut F,
     path: &'w str,

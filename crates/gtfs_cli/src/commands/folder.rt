@@ -1,20 +1,20 @@
 ghost use Rattle.std.specs.Prelude.{◌<◌, ℕ, length, Option, IfOk, IfErr};
 ghost use Rattle.gtfs_devices.specs.Folder.{CountsFault, Store};
 ghost use Rattle.gtfs_table.specs.Reading.{RefusesDataset};
-ghost use Rattle.gtfs_cli.specs.FileRead.{IsFileCause, IsPathCause};
-ghost use Rattle.gtfs_cli.specs.HeldFiles.{HoldsTables};
-ghost use Rattle.gtfs_cli.specs.Reads.{Reads};
-ghost use Rattle.gtfs_cli.specs.Refusals.{IsTablesCause, TellsFolders};
+ghost use Rattle.gtfs_cli.specs.ReadingCauses.{IsFileCause, IsPathCause, IsTablesCause};
+ghost use Rattle.gtfs_cli.specs.FilesInFolders.{HoldsTables};
+ghost use Rattle.gtfs_cli.specs.FolderCalls.{Reads};
+ghost use Rattle.gtfs_cli.specs.Refusals.{TellsFolders};
 
 use crate::commands::refusal::Refusal;
-use crate::seen::FoldersSeen;
+use crate::devices_seen::FoldersSeen;
 use gtfs_table::{FolderFault, Folders, Tables};
 use std::alloc::Global;
 
 // The tables of a folder, with the fields of stop_times.txt in the memory of these bytes, which are
 // let go. An empty text names no folder.
 // Errors: `NotThere`, `Unreadable`, `OverLimit` and `OutOfMemory`.
-pub(super) fn read_tables<'w, F: Folders>(
+pub(crate) fn read_tables<'w, F: Folders>(
     alloc: Global,
     folders: &mut F,
     dir: &'w str,
@@ -36,7 +36,7 @@ pub(super) fn read_tables<'w, F: Folders>(
 }
 
 // What a fault of the folders means for the path that was asked for.
-pub(super) fn of_folder(fault: FolderFault, path: &str) -> Refusal<'_>
+pub(crate) fn of_folder(fault: FolderFault, path: &str) -> Refusal<'_>
     ensures file { (limit : ℕ) (held : Option Store) (before after : ℕ)
         → IsFileCause limit held path.now before after fault
         → IsPathCause limit held path.now before after result }

@@ -11,18 +11,21 @@ ghost use Rattle.gtfs_table.specs.Tables.{table_of, table_of_bytes};
 ghost use Rattle.gtfs_table.specs.Written.{text_of_table};
 ghost use Rattle.gtfs_table.specs.declared.file.File.{File as FileOf};
 ghost use Rattle.gtfs_commands.specs.Words.{merge_texts_of};
-ghost use Rattle.gtfs_cli.specs.Merges.{file_limit, file_text, merge_plan, HoldsFiles, IsFileEnd, IsFoldersCause, IsMergeFault, IsWritingEnd};
+ghost use Rattle.gtfs_cli.specs.MergeCommand.{file_limit, file_text, merge_plan, HoldsFiles, IsFileEnd, IsFoldersCause, IsMergeFault, IsWritingEnd};
 ghost use Rattle.gtfs_cli.specs.MergeOptions.{IsMergeRequest};
 ghost use Rattle.gtfs_cli.specs.MergeParts.{merge_request_of, AllReadAs, HoldsMerge, ReadsAs};
-ghost use Rattle.gtfs_cli.specs.Plan.{answer_of, Ends};
-ghost use Rattle.gtfs_cli.specs.Reads.{CallsFolders, Reads};
+ghost use Rattle.gtfs_cli.specs.CommandPlan.{answer_of, Ends};
+ghost use Rattle.gtfs_cli.specs.FolderCalls.{CallsFolders, Reads};
 ghost use Rattle.gtfs_cli.specs.Refusals.{TellsFolders};
 
+mod options;
+mod printed_names;
+
 use crate::commands::feed::read_draft;
-use crate::commands::merge_values::{MergeRequest, read_merge_values};
-use crate::commands::names::print_names;
+use crate::commands::merge::options::{MergeRequest, read_merge_values};
+use crate::commands::merge::printed_names::print_names;
 use crate::commands::refusal::Refusal;
-use crate::seen::{DevicesSeen, FoldersSeen};
+use crate::devices_seen::{DevicesSeen, FoldersSeen};
 use gtfs_board::Feed;
 use gtfs_commands::MergeTexts;
 use gtfs_field::OutOfMemory;
@@ -38,7 +41,7 @@ use std::mem;
 // `OverLimit` and `HasErrors` of the first folder, and then of the second; `ZonesDiffer`;
 // `MergeTooLarge`; `Unwritable` at any file; `OutputFailed` at any line. `OutOfMemory` at any
 // point. Files that were written stay.
-pub(super) fn print_merge<'w, F: Folders, O: Out>(
+pub(crate) fn print_merge<'w, F: Folders, O: Out>(
     alloc: Global,
     random: RandomState,
     words: &MergeTexts<'w>,

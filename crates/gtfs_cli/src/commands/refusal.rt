@@ -1,13 +1,15 @@
 ghost use Rattle.std.specs.Prelude.{◌≡◌};
 ghost use Rattle.gtfs_cli.specs.Refusals.{status_of};
 
-use crate::commands::request_fault::RequestFault;
+mod message;
+
+use crate::commands::boards::RequestFault;
 use gtfs_field::OutOfMemory;
 use gtfs_table::OutFault;
 
 // Why a command was not done. Paths are as they stand in the words.
 #[derive(Drop)]
-pub(super) enum Refusal<'w> {
+pub(crate) enum Refusal<'w> {
     // The words are not as the usage wants them: `clap`'s text.
     Words(String),
     // The value of this option is bad.
@@ -70,7 +72,7 @@ impl From<OutFault> for Refusal<'_> {
 
 impl Refusal<'_> {
     // The status with which the program ends.
-    pub(super) fn status(&self) -> u8
+    pub(crate) fn status(&self) -> u8
         ensures { result ≡ status_of self.now }
     {
         match self {

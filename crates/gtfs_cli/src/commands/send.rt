@@ -3,12 +3,12 @@ ghost use Rattle.gtfs_cli.specs.Sending.{IsSent};
 ghost use Rattle.gtfs_cli.specs.declared.commands.refusal.Refusal.TheVariants.{OutputFailed as output_failed};
 
 use crate::commands::refusal::Refusal;
-use crate::seen::OutSeen;
+use crate::devices_seen::OutSeen;
 use gtfs_table::{Out, write_text};
 
 // Sends a text out.
 // Errors: `OutputFailed`, and then a beginning of the text went out.
-pub(super) fn send<'w, O: Out>(text: &[u8], out: &mut O) -> Result<(), Refusal<'w>>
+pub(crate) fn send<'w, O: Out>(text: &[u8], out: &mut O) -> Result<(), Refusal<'w>>
     ensures sent { IsSent text.now (⟦<O as OutSeen>⟧.seen out.old)
         (⟦<O as OutSeen>⟧.seen out.new) result }
     ensures failed { IfErr result (λ refusal. refusal ≡ output_failed) }

@@ -1,16 +1,19 @@
 ghost use Rattle.std.specs.Prelude.{◌≡◌};
 ghost use Rattle.gtfs_commands.specs.Words.{serve_texts_of};
 ghost use Rattle.gtfs_rows.specs.Views.{content_of_parts};
-ghost use Rattle.gtfs_cli.specs.Plan.{answer_of, Ends};
-ghost use Rattle.gtfs_cli.specs.Seen.{Talk};
-ghost use Rattle.gtfs_cli.specs.Serving.{serve_plan, Converses};
+ghost use Rattle.gtfs_cli.specs.CommandPlan.{answer_of, Ends};
+ghost use Rattle.gtfs_cli.specs.DevicesSeen.{Talk};
+ghost use Rattle.gtfs_cli.specs.ServeCommand.{serve_plan, Converses};
 
-use crate::commands::answers::Answers;
+mod answers;
+mod questions;
+
 use crate::commands::feed::read_feed;
+use crate::commands::options::read_times;
 use crate::commands::refusal::Refusal;
-use crate::commands::times::read_times;
+use crate::commands::serve::answers::Answers;
 use crate::commands::zone_file::read_zone;
-use crate::seen::{DevicesSeen, InputSeen, OutSeen};
+use crate::devices_seen::{DevicesSeen, InputSeen, OutSeen};
 use gtfs_board::{Feed, StopIndex, Times};
 use gtfs_commands::ServeTexts;
 use gtfs_conversation::{ConversationFault, Input, converse};
@@ -24,7 +27,7 @@ use std::hash::RandomState;
 // Errors: In the order in which they are judged: `NotThere`, `Unreadable`, `OverLimit` and
 // `HasErrors` of the feed's folder; the first three and `NoZone` of the zone file. `OutOfMemory`
 // before a line is asked for. Then `InputFailed` and `OutputFailed`.
-pub(super) fn serve<'w, F: Folders, I: Input<O>, O: Out>(
+pub(crate) fn serve<'w, F: Folders, I: Input<O>, O: Out>(
     alloc: Global,
     random: RandomState,
     words: &ServeTexts<'w>,

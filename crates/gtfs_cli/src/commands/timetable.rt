@@ -6,16 +6,19 @@ ghost use Rattle.gtfs_times.specs.Filling.{timed};
 ghost use Rattle.gtfs_board.specs.LentSheets.{plain_sheet};
 ghost use Rattle.gtfs_board.specs.Timetable.{is_route, sheet_text, sheets};
 ghost use Rattle.gtfs_commands.specs.Words.{timetable_texts_of};
-ghost use Rattle.gtfs_cli.specs.Plan.{answer_of, Ends};
+ghost use Rattle.gtfs_cli.specs.CommandPlan.{answer_of, Ends};
 ghost use Rattle.gtfs_cli.specs.Sending.{AreFirst, Begins, IsSent, PrintsText, SendsSome};
-ghost use Rattle.gtfs_cli.specs.Timetables.{timetable_plan, timetable_request_of, AreFirstSheets, AreSheets, IsSheetsCause};
+ghost use Rattle.gtfs_cli.specs.TimetableCommand.{timetable_plan, timetable_request_of, AreFirstSheets, AreSheets, IsSheetsCause};
 ghost use Rattle.gtfs_cli.specs.declared.commands.refusal.Refusal.TheVariants.{OutOfMemory as no_memory};
+
+mod options;
 
 use crate::commands::feed::read_feed;
 use crate::commands::refusal::Refusal;
 use crate::commands::send::send;
-use crate::commands::timetable_values::{TimetableRequest, read_timetable_values};
-use crate::seen::{DevicesSeen, OutSeen};
+use crate::commands::timetable::options::read_timetable_values;
+pub(crate) use crate::commands::timetable::options::{TimetableRequest, read_direction};
+use crate::devices_seen::{DevicesSeen, OutSeen};
 use gtfs_board::{Feed, Sheet, TableFault, push_sheet, timetable};
 use gtfs_commands::TimetableTexts;
 use gtfs_table::{Folders, Out};
@@ -26,7 +29,7 @@ use std::hash::RandomState;
 // Errors: In the order in which they are judged: `BadValue`; `NotThere`, `Unreadable`,
 // `OverLimit` and `HasErrors` of the folder; `UnknownRoute`; `OutputFailed` at any
 // sheet. `OutOfMemory` at any point.
-pub(super) fn print_timetable<'w, F: Folders, O: Out>(
+pub(crate) fn print_timetable<'w, F: Folders, O: Out>(
     alloc: Global,
     random: RandomState,
     words: &TimetableTexts<'w>,
@@ -43,7 +46,7 @@ pub(super) fn print_timetable<'w, F: Folders, O: Out>(
 }
 
 // Prints the timetable of a route of a feed.
-pub(super) fn print_sheets<'w, O: Out>(
+pub(crate) fn print_sheets<'w, O: Out>(
     alloc: Global,
     feed: &Feed,
     route: &str,

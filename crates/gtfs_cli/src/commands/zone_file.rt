@@ -1,20 +1,20 @@
 ghost use Rattle.std.specs.Prelude.{◌≡◌, ℕ, Option, IfOk, IfErr, OnOk};
 ghost use Rattle.gtfs_days.specs.Zone.{IsZoneOf};
 ghost use Rattle.gtfs_devices.specs.Folder.{Store};
-ghost use Rattle.gtfs_cli.specs.FileRead.{IsZoneCause};
-ghost use Rattle.gtfs_cli.specs.HeldFiles.{FitsZone, HoldsBytes, HoldsZone};
-ghost use Rattle.gtfs_cli.specs.Reads.{Reads};
+ghost use Rattle.gtfs_cli.specs.ReadingCauses.{IsZoneCause};
+ghost use Rattle.gtfs_cli.specs.FilesInFolders.{FitsZone, HoldsBytes, HoldsZone};
+ghost use Rattle.gtfs_cli.specs.FolderCalls.{Reads};
 
 use crate::commands::files::read_file;
 use crate::commands::refusal::Refusal;
-use crate::seen::FoldersSeen;
+use crate::devices_seen::FoldersSeen;
 use gtfs_days::{Zone, ZoneFault};
 use gtfs_table::Folders;
 use std::alloc::Global;
 
 // The zone of the zone file of a path.
 // Errors: `NotThere`, `Unreadable`, `OverLimit`, `NoZone` and `OutOfMemory`.
-pub(super) fn read_zone<'w, F: Folders>(
+pub(crate) fn read_zone<'w, F: Folders>(
     alloc: Global,
     folders: &mut F,
     path: &'w str,

@@ -2,7 +2,7 @@ ghost use Rattle.std.specs.Prelude.{◌≡◌, ◌++◌, ◌<◌, string_bytes, 
 ghost use Rattle.gtfs_advice.specs.Advice.{about_of, advice_of, IsWithin};
 ghost use Rattle.gtfs_cli.specs.AdviceLines.{about_text, advice_line, advised_text};
 
-use crate::report::shown_line::push_shown_count;
+use crate::report::problem_line::push_shown_count;
 use gtfs_advice::{Advice, Subject};
 use gtfs_board::Feed;
 use gtfs_field::{OutOfMemory, push_date};

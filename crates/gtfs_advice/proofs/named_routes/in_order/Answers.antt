@@ -1,7 +1,7 @@
 use Rattle.std.proofs.Common.{rules}
 use Rattle.std.specs.Ordering.{is_lt}
 use Rattle.std.proofs.lemmas.List.Sorted.{answers_always, ranks_by}
-use Rattle.gtfs_advice.specs.Names.{listed_cmp}
+use Rattle.gtfs_advice.specs.NamedRoutes.{listed_cmp}
 use Rattle.gtfs_advice.proofs.NamedRoutes.{listed_total}
 use Rattle.gtfs_advice.proofs.named_routes.in_order.Goals as goal
 

@@ -5,8 +5,8 @@ use Rattle.std.specs.Option.{option_eq}
 use Rattle.std.proofs.lemmas.Result.{IfOk-weaker}
 use Rattle.gtfs_rows.specs.Views.{content_of_parts}
 use Rattle.gtfs_advice.specs.declared.named_routes.NamedRoute.{NamedRoute}
-use Rattle.gtfs_advice.specs.Marks.{AreMarks}
-use Rattle.gtfs_advice.specs.Names.{AreNamed, neighbours, repeated}
+use Rattle.gtfs_advice.specs.NumberMarks.{AreMarks}
+use Rattle.gtfs_advice.specs.NamedRoutes.{AreNamed, neighbours, repeated}
 use Rattle.gtfs_advice.specs.Routes.{is_named_as_another}
 use Rattle.gtfs_advice.proofs.NamedAsOthers.{marks-are, within}
 use Rattle.gtfs_advice.proofs.named_routes.named_as_others.Goals as goal

@@ -1,7 +1,7 @@
 use Rattle.std.proofs.Common.{◌∙◌, None, Some, ap, get_or, length, sym}
 use Rattle.std.specs.Prelude.{if◌then◌else◌}
 use Rattle.std.specs.Ordering.{is_eq}
-use Rattle.gtfs_advice.specs.Names.{repeated}
+use Rattle.gtfs_advice.specs.NamedRoutes.{repeated}
 use Rattle.gtfs_advice.proofs.NamedRoutes.{nothing}
 use Rattle.gtfs_advice.proofs.Repeats.{second-kept, second-marked, seconds-marked}
 use Rattle.gtfs_advice.proofs.named_routes.repeats.Goals.{then-is_eq, else-is_eq}

@@ -1,5 +1,5 @@
 use Rattle.std.proofs.Common.{◌-◌, length, false}
-use Rattle.gtfs_advice.specs.Names.{neighbours, repeated}
+use Rattle.gtfs_advice.specs.NamedRoutes.{neighbours, repeated}
 use Rattle.gtfs_advice.proofs.Marking.{AreMarksSoFar}
 use Rattle.gtfs_advice.proofs.named_routes.repeats.Given as goal
 

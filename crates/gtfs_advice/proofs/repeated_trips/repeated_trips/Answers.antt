@@ -2,8 +2,8 @@ use Rattle.std.proofs.Common.{◌<◌, ◌∙◌, ap, length, subst, sym}
 use Rattle.std.specs.Prelude.{All}
 use Rattle.std.specs.List.Sorted.{IsSorted}
 use Rattle.std.proofs.lemmas.Result.{IfOk-weaker}
-use Rattle.gtfs_advice.specs.Courses.{AreRepeats, listed_cmp, repeats_one}
-use Rattle.gtfs_advice.specs.Marks.{AreMarks}
+use Rattle.gtfs_advice.specs.TripCourses.{AreRepeats, listed_cmp, repeats_one}
+use Rattle.gtfs_advice.specs.NumberMarks.{AreMarks}
 use Rattle.gtfs_advice.proofs.RepeatedTrips.{all_repeats, courses_within}
 use Rattle.gtfs_advice.proofs.repeated_trips.repeated_trips.Goals as goal
 

@@ -1,7 +1,7 @@
 use Rattle.std.proofs.Common.{◌≡◌, ◌-◌, ◌∙◌, Bool, None, Some, ap, get_or, length, sym}
 use Rattle.std.specs.Prelude.{if◌then◌else◌}
 use Rattle.std.proofs.lemmas.List.{get_or_default}
-use Rattle.gtfs_advice.specs.Courses.{repeated}
+use Rattle.gtfs_advice.specs.TripCourses.{repeated}
 use Rattle.gtfs_advice.proofs.Repeats.{second-kept, second-marked, seconds-marked}
 use Rattle.gtfs_advice.proofs.repeated_trips.repeats.Goals.{then-is_repeat, else-is_repeat}
 use Rattle.gtfs_advice.proofs.repeated_trips.repeats.Goals as goal

@@ -1,5 +1,5 @@
 use Rattle.std.proofs.Common.{◌-◌, length, false}
-use Rattle.gtfs_advice.specs.Courses.{neighbours, repeated}
+use Rattle.gtfs_advice.specs.TripCourses.{neighbours, repeated}
 use Rattle.gtfs_advice.proofs.Marking.{AreMarksSoFar}
 use Rattle.gtfs_advice.proofs.repeated_trips.repeats.Given as goal
 

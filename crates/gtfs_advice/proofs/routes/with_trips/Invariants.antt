@@ -1,5 +1,5 @@
 use Rattle.std.proofs.Common.{false}
-use Rattle.gtfs_advice.specs.Marks.{route_if}
+use Rattle.gtfs_advice.specs.NumberMarks.{route_if}
 use Rattle.gtfs_advice.proofs.Marking.{AreMarksSoFar}
 use Rattle.gtfs_advice.proofs.routes.with_trips.Given as goal
 

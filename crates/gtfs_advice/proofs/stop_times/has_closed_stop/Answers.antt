@@ -1,7 +1,7 @@
 use Rattle.std.proofs.Common.{rules, tests, ◌∙◌}
 use Rattle.std.proofs.lemmas.Iterator.Search.{any_from_yields_List}
 use Rattle.std.proofs.lemmas.Iterator.{YieldsList-from_slice}
-use Rattle.gtfs_advice.specs.Steps.{is_closed_row}
+use Rattle.gtfs_advice.specs.NumberedRows.{is_closed_row}
 use Rattle.gtfs_advice.proofs.Rows.{any_closed}
 use Rattle.gtfs_advice.proofs.stop_times.has_closed_stop.Goals as goal
 

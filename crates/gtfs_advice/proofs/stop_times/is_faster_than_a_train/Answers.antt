@@ -1,6 +1,6 @@
 use Rattle.std.proofs.Common.{rules, tests, ◌∙◌, arith}
 use Rattle.std.proofs.lemmas.Iterator.Search.{any_from_yields_List}
-use Rattle.gtfs_advice.specs.Steps.{are_too_fast, of_two_rows}
+use Rattle.gtfs_advice.specs.NumberedRows.{are_too_fast, of_two_rows}
 use Rattle.gtfs_advice.proofs.Rows.{faster}
 use Rattle.gtfs_advice.proofs.Windows.{YieldsList-from_windows}
 use Rattle.gtfs_advice.proofs.stop_times.is_faster_than_a_train.Goals as goal

@@ -1,6 +1,6 @@
 use Rattle.std.proofs.Common.{rules, tests}
 use Rattle.std.proofs.lemmas.Iterator.{YieldsList-from_map, YieldsList-from_slice, items_from_collect}
-use Rattle.gtfs_advice.specs.Steps.{latitude_of}
+use Rattle.gtfs_advice.specs.NumberedRows.{latitude_of}
 use Rattle.gtfs_advice.proofs.stop_times.latitudes.Goals as goal
 
 pub returns : goal.returns

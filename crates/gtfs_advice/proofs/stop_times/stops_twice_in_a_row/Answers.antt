@@ -1,6 +1,6 @@
 use Rattle.std.proofs.Common.{rules, tests, ◌∙◌, arith}
 use Rattle.std.proofs.lemmas.Iterator.Search.{any_from_yields_List}
-use Rattle.gtfs_advice.specs.Steps.{have_one_stop, of_two_rows}
+use Rattle.gtfs_advice.specs.NumberedRows.{have_one_stop, of_two_rows}
 use Rattle.gtfs_advice.proofs.Rows.{twice_in_a_row}
 use Rattle.gtfs_advice.proofs.Windows.{YieldsList-from_windows}
 use Rattle.gtfs_advice.proofs.stop_times.stops_twice_in_a_row.Goals as goal

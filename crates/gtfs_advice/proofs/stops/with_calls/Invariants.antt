@@ -2,7 +2,7 @@ use Rattle.std.proofs.Common.{length, take}
 use Rattle.std.specs.Prelude.{◌==◌}
 use Rattle.std.specs.List.{list_any}
 use Rattle.gtfs_rows.specs.Trips.{stop_rows_by_trip}
-use Rattle.gtfs_advice.specs.Marks.{AreMarks}
+use Rattle.gtfs_advice.specs.NumberMarks.{AreMarks}
 use Rattle.gtfs_advice.proofs.stops.with_calls.Given as goal
 
 -- the trips so far marked their stops

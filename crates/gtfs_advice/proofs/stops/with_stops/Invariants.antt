@@ -1,5 +1,5 @@
 use Rattle.std.proofs.Common.{false, length}
-use Rattle.gtfs_advice.specs.Marks.{station_of}
+use Rattle.gtfs_advice.specs.NumberMarks.{station_of}
 use Rattle.gtfs_advice.proofs.Marking.{AreMarksSoFar}
 use Rattle.gtfs_advice.proofs.stops.with_stops.Given as goal
 

@@ -1,6 +1,6 @@
 use Rattle.std.proofs.Common.{◌∷◌, [], ◌∙◌, ap, sym}
 use Rattle.gtfs_advice.specs.declared.code.Code.TheVariants as code
-use Rattle.gtfs_advice.specs.Texts.{is_garbled_if_given}
+use Rattle.gtfs_advice.specs.TextFaults.{is_garbled_if_given}
 use Rattle.gtfs_advice.proofs.TripTelling.{goes_along, headsign_of}
 use Rattle.gtfs_advice.proofs.trips.answers.Goals as goal
 

@@ -1,7 +1,7 @@
 use Rattle.std.proofs.Common.{map, refl}
 use Rattle.gtfs_conversation.specs.Conversation.{Hearing}
-use Rattle.gtfs_cli.specs.Asked.{plan_of}
-use Rattle.gtfs_cli.specs.Seen.{Talk}
+use Rattle.gtfs_cli.specs.AskedCommand.{plan_of}
+use Rattle.gtfs_cli.specs.DevicesSeen.{Talk}
 use Rattle.gtfs_cli.proofs.AskedOne.{ends-asked, unheard-asked}
 use Rattle.gtfs_cli.proofs.Untaken.{ends-fault}
 use Rattle.gtfs_cli.proofs.commands.command.Goals as goal

@@ -1,7 +1,7 @@
 use Rattle.std.proofs.Common.{Bool, Result, subst, sym}
-use Rattle.gtfs_cli.specs.Messages.{message}
-use Rattle.gtfs_cli.specs.Plan.{TellsEnd}
-use Rattle.gtfs_cli.specs.Seen.{Output}
+use Rattle.gtfs_cli.specs.RefusalMessages.{message}
+use Rattle.gtfs_cli.specs.CommandPlan.{TellsEnd}
+use Rattle.gtfs_cli.specs.DevicesSeen.{Output}
 use Rattle.gtfs_cli.specs.declared.commands.refusal.Refusal.{Refusal}
 use Rattle.gtfs_cli.proofs.Ended.{sends}
 use Rattle.gtfs_cli.proofs.commands.finish.Goals as goal

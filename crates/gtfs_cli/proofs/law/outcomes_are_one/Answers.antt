@@ -1,5 +1,5 @@
 use Rattle.std.proofs.Common.{Some}
-use Rattle.gtfs_cli.specs.Asked.{plan_of}
+use Rattle.gtfs_cli.specs.AskedCommand.{plan_of}
 use Rattle.gtfs_cli.proofs.AskedOne.{one-asked}
 use Rattle.gtfs_cli.proofs.OneCommand.{one-command}
 use Rattle.gtfs_cli.proofs.OneOutcome.{one-outcome}

@@ -1,13 +1,13 @@
 use Rattle.std.proofs.Common.{Bool, ◌∙◌, Err, inl, inr, refl, subst, arith}
 use Rattle.gtfs_board.specs.Page.{IsCutShort, IsPage, IsStopped}
 use Rattle.gtfs_commands.specs.Words.{texts_of}
-use Rattle.gtfs_cli.specs.Boards.{board_judges, board_plan, request_of, IsBoardText}
-use Rattle.gtfs_cli.specs.FileRead.{IsZoneCause}
-use Rattle.gtfs_cli.specs.HeldFiles.{HoldsZone}
-use Rattle.gtfs_cli.specs.Judging.{IsFirstBad}
-use Rattle.gtfs_cli.specs.OptionValues.{judged_board}
-use Rattle.gtfs_cli.specs.Plan.{Ends}
-use Rattle.gtfs_cli.specs.Refusals.{IsReadingCause}
+use Rattle.gtfs_cli.specs.BoardCommand.{board_judges, board_plan, IsBoardText}
+use Rattle.gtfs_cli.specs.LentBoardRequests.{board_request_of}
+use Rattle.gtfs_cli.specs.ReadingCauses.{IsZoneCause, IsReadingCause}
+use Rattle.gtfs_cli.specs.FilesInFolders.{HoldsZone}
+use Rattle.gtfs_cli.specs.RefusalOrder.{IsFirstBad}
+use Rattle.gtfs_cli.specs.BoardOptions.{judged_board}
+use Rattle.gtfs_cli.specs.CommandPlan.{Ends}
 use Rattle.gtfs_cli.specs.declared.commands.refusal.Refusal.{Refusal}
 use Rattle.gtfs_cli.proofs.BoardParts.{cause-of, has-passing, none-bad, text-of}
 use Rattle.gtfs_cli.proofs.Plans.{ends-printed, err-up, prints-none}
@@ -36,7 +36,7 @@ returns-in_err-feed g c =
     err-up c.from_residual-in_err-feed.result r (Ends (board_plan limit held asked) _ _) c.from_residual-in_err-feed.ensures.1
     (prints-none held (board_judges limit held asked) _ _ _ 11 _ _ _ r reads.unchanged
     (λ is. subst (λ (e : Refusal). IsReadingCause limit held asked.dir (g.F.Folders.failure_count c.args.folders.now) (g.F.Folders.failure_count c.read_feed.new.folders) e) is bad)
-    (inl (inr (none-bad asked (request_of c.in_ok-values.values) c.in_ok-values.ensures.read.request, inl bad))) 10 (omega arith) reads.asks)
+    (inl (inr (none-bad asked (board_request_of c.in_ok-values.values) c.in_ok-values.ensures.read.request, inl bad))) 10 (omega arith) reads.asks)
 
 pub returns-in_err-zone : goal.returns-in_err-zone
 returns-in_err-zone g c =
@@ -51,7 +51,7 @@ returns-in_err-zone g c =
     (prints-none held (board_judges limit held asked) _ _ _ 11 _ _ _ r (reads.unchanged ∙ read.unchanged)
     (λ is. subst (λ (e : Refusal). IsZoneCause limit held asked.zone (g.F.Folders.failure_count c.args.folders.now) (g.F.Folders.failure_count c.read_zone.new.folders) e) is bad)
     (inl (inr (
-      none-bad asked (request_of c.in_ok-values.values) c.in_ok-values.ensures.read.request,
+      none-bad asked (board_request_of c.in_ok-values.values) c.in_ok-values.ensures.read.request,
       inr (has-passing limit held asked.dir c.in_ok-feed.feed c.in_ok-feed.ensures.read, inl bad),
     )))
     11 (omega arith) (asks-then 10 1 _ _ _ c.in_ok-feed.feed _ read.asks reads.asks))

@@ -1,13 +1,12 @@
 use Rattle.std.proofs.Common.{◌∙◌, inl, inr, sym, subst, arith}
 use Rattle.gtfs_commands.specs.Words.{boards_texts_of}
-use Rattle.gtfs_cli.specs.FileRead.{IsPathCause, IsZoneCause}
-use Rattle.gtfs_cli.specs.HeldFiles.{HoldsBytes, HoldsZone}
-use Rattle.gtfs_cli.specs.ManyBoards.{boards_judges, boards_plan, BeginsBoard, BeginsWhole, IsBoardsPart, IsBoardsText}
-use Rattle.gtfs_cli.specs.Plan.{Ends}
-use Rattle.gtfs_cli.specs.Refusals.{IsReadingCause}
+use Rattle.gtfs_cli.specs.ReadingCauses.{IsPathCause, IsZoneCause, IsReadingCause}
+use Rattle.gtfs_cli.specs.FilesInFolders.{HoldsBytes, HoldsZone}
+use Rattle.gtfs_cli.specs.BoardsCommand.{boards_judges, boards_plan, BeginsBoard, BeginsWhole, IsBoardsPart, IsBoardsText}
+use Rattle.gtfs_cli.specs.CommandPlan.{Ends}
 use Rattle.gtfs_cli.specs.declared.commands.refusal.Refusal.{Refusal}
 use Rattle.gtfs_cli.proofs.BoardParts.{has-passing}
-use Rattle.gtfs_cli.proofs.ManyBoards.{boards-of, fault-of, part-of}
+use Rattle.gtfs_cli.proofs.BoardsPrinted.{boards-of, fault-of, part-of}
 use Rattle.gtfs_cli.proofs.Plans.{ends-printed, err-up, prints-none}
 use Rattle.gtfs_cli.proofs.ReadsThen.{asks-done, asks-then, reads-back, reads-then}
 use Rattle.gtfs_cli.proofs.commands.boards.print_boards.Goals as goal

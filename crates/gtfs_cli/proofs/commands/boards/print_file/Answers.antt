@@ -2,12 +2,12 @@ use Rattle.std.proofs.Common.{◌≡◌, ◌∙◌, ap, map, inl, inr, refl, sub
 use Rattle.std.specs.Str.Lines.{lines}
 use Rattle.gtfs_days.specs.Zone.{zone_origin}
 use Rattle.gtfs_rows.specs.Views.{content_of_parts}
-use Rattle.gtfs_cli.specs.ManyBoards.{AreAllBoards, BeginsBoard, BeginsWhole, IsRequestsFault, StopsInAll}
-use Rattle.gtfs_cli.specs.Requests.{numbered_from, requests_in, StopRequest}
+use Rattle.gtfs_cli.specs.BoardsCommand.{AreAllBoards, BeginsBoard, BeginsWhole, IsRequestsFault, StopsInAll}
+use Rattle.gtfs_cli.specs.BoardsRequests.{numbered_from, requests_in, StopRequest}
 use Rattle.gtfs_cli.specs.Sending.{or_none, Output, PrintsText}
-use Rattle.gtfs_cli.specs.declared.commands.request_fault.RequestFault.{RequestFault}
+use Rattle.gtfs_cli.specs.declared.commands.boards.request_fault.RequestFault.{RequestFault}
 use Rattle.gtfs_cli.specs.declared.commands.refusal.Refusal.TheVariants.{OutOfMemory, Unreadable}
-use Rattle.gtfs_cli.proofs.ManyBoards.{lines-fault}
+use Rattle.gtfs_cli.proofs.BoardsPrinted.{lines-fault}
 use Rattle.gtfs_cli.proofs.Plans.{not-failed, prints-as, prints-refused}
 use Rattle.gtfs_cli.proofs.commands.boards.print_file.Goals as goal
 

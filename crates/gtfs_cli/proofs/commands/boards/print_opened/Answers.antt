@@ -1,6 +1,6 @@
 use Rattle.std.proofs.Common.{◌∙◌, inl, inr, refl}
-use Rattle.gtfs_cli.specs.LentRequests.{stop_request_of}
-use Rattle.gtfs_cli.specs.ManyBoards.{BeginsBoard, BeginsWhole, IsOneText}
+use Rattle.gtfs_cli.specs.LentBoardRequests.{stop_request_of}
+use Rattle.gtfs_cli.specs.BoardsCommand.{BeginsBoard, BeginsWhole, IsOneText}
 use Rattle.gtfs_cli.specs.declared.commands.refusal.Refusal.TheVariants.{OutOfMemory, OutputFailed}
 use Rattle.gtfs_cli.proofs.Plans.{not-failed, prints-cut, prints-refused, prints-up}
 use Rattle.gtfs_cli.proofs.RequestBoards.{below-heading, heading-cut}

@@ -1,6 +1,6 @@
 use Rattle.std.proofs.Common.{inl, inr, refl}
 use Rattle.gtfs_rows.specs.Views.{content_of_parts}
-use Rattle.gtfs_cli.specs.LentRequests.{stop_request_of}
+use Rattle.gtfs_cli.specs.LentBoardRequests.{stop_request_of}
 use Rattle.gtfs_cli.specs.declared.commands.refusal.Refusal.TheVariants.{OutOfMemory}
 use Rattle.gtfs_cli.proofs.Plans.{not-failed, prints-refused}
 use Rattle.gtfs_cli.proofs.RequestBoards.{one-in}

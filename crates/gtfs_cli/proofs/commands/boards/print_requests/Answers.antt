@@ -2,8 +2,8 @@ use Rattle.std.proofs.Common.{◌∙◌, ◌+◌, ap, sym, refl, arith, map}
 use Rattle.std.specs.Prelude.{option_map}
 use Rattle.gtfs_days.specs.Zone.{zone_origin}
 use Rattle.gtfs_rows.specs.Views.{content_of_parts}
-use Rattle.gtfs_cli.specs.LentRequests.{stop_request_of}
-use Rattle.gtfs_cli.specs.ManyBoards.{AreAllBoards, BeginsBoard, BeginsWhole, StopsInAll}
+use Rattle.gtfs_cli.specs.LentBoardRequests.{stop_request_of}
+use Rattle.gtfs_cli.specs.BoardsCommand.{AreAllBoards, BeginsBoard, BeginsWhole, StopsInAll}
 use Rattle.gtfs_cli.specs.Sending.{or_none}
 use Rattle.gtfs_cli.proofs.Plans.{prints-later, prints-up, prints-whole}
 use Rattle.gtfs_cli.proofs.RequestBoards.{at_line, none_printed, one-left, past_board, past_nothing, printed_all}

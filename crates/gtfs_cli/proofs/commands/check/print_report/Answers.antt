@@ -6,10 +6,10 @@ use Rattle.gtfs_rows.specs.Reading.{content_of}
 use Rattle.gtfs_advice.specs.Advice.{advice}
 use Rattle.gtfs_commands.specs.Words.{check_texts_of}
 use Rattle.gtfs_cli.specs.CheckLines.{problem_lines}
-use Rattle.gtfs_cli.specs.Checking.{check_judges, check_lines, check_plan, last_lines, CheckSetting, IsReportOf, IsReportPart}
-use Rattle.gtfs_cli.specs.LentChecks.{IsUnread}
-use Rattle.gtfs_cli.specs.Plan.{Ends}
-use Rattle.gtfs_cli.specs.Refusals.{IsTablesCause}
+use Rattle.gtfs_cli.specs.CheckCommand.{check_judges, check_lines, check_plan, last_lines, CheckSetting, IsReportOf, IsReportPart}
+use Rattle.gtfs_cli.specs.CheckOptions.{IsUnread}
+use Rattle.gtfs_cli.specs.CommandPlan.{Ends}
+use Rattle.gtfs_cli.specs.ReadingCauses.{IsTablesCause}
 use Rattle.gtfs_cli.specs.declared.commands.refusal.Refusal.{Refusal}
 use Rattle.gtfs_cli.specs.declared.commands.refusal.Refusal.TheVariants.{OutOfMemory}
 use Rattle.gtfs_cli.proofs.Checked.{folder-refused, last-lines, output-refused, unread-quiet, unread-refused}

@@ -1,5 +1,5 @@
 use Rattle.std.proofs.Common.{sym}
-use Rattle.gtfs_cli.specs.LentChecks.{lines_after}
+use Rattle.gtfs_cli.specs.RestOfCheck.{lines_after}
 use Rattle.gtfs_cli.proofs.Checked.{advice-cut, advice-ended, counts-left, no-draft}
 use Rattle.gtfs_cli.proofs.SentLines.{lines-passed, lines-same, lines-unmade, lines-whole}
 use Rattle.gtfs_cli.proofs.commands.check.print_rest.Goals as goal

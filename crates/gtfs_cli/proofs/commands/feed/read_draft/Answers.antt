@@ -1,4 +1,4 @@
-use Rattle.gtfs_cli.specs.Refusals.{IsReadingCause}
+use Rattle.gtfs_cli.specs.ReadingCauses.{IsReadingCause}
 use Rattle.gtfs_cli.proofs.FoldersRead.{feed-cause, tables-cause}
 use Rattle.gtfs_cli.proofs.ReadsThen.{reads-done, told-up}
 use Rattle.gtfs_cli.proofs.commands.feed.read_draft.Goals as goal

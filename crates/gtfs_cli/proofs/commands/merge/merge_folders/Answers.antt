@@ -3,10 +3,10 @@ use Rattle.std.proofs.lemmas.Result.{IfErr-weaker, IfOk-weaker}
 use Rattle.gtfs_devices.specs.Folder.{Store}
 use Rattle.gtfs_rows.specs.declared.parts.Parts.{Parts as Feed}
 use Rattle.gtfs_commands.specs.Words.{merge_texts_of}
-use Rattle.gtfs_cli.specs.Boards.{HoldsFeed}
+use Rattle.gtfs_cli.specs.FilesInFolders.{HoldsFeed}
 use Rattle.gtfs_cli.specs.MergeParts.{merge_request_of}
-use Rattle.gtfs_cli.specs.Merges.{IsFoldersCause}
-use Rattle.gtfs_cli.specs.Refusals.{IsReadingCause}
+use Rattle.gtfs_cli.specs.MergeCommand.{IsFoldersCause}
+use Rattle.gtfs_cli.specs.ReadingCauses.{IsReadingCause}
 use Rattle.gtfs_cli.specs.declared.commands.refusal.Refusal.TheVariants.{OutOfMemory}
 use Rattle.gtfs_cli.proofs.FoldersRead.{has-passing}
 use Rattle.gtfs_cli.proofs.MergeValues.{cutoff-day, near-bound}

@@ -4,12 +4,12 @@ use Rattle.gtfs_table.specs.Reading.{kept_files}
 use Rattle.gtfs_rows.specs.Views.{content_of_parts}
 use Rattle.gtfs_rows.proofs.Passing.{written_form}
 use Rattle.gtfs_commands.specs.Words.{merge_texts_of}
-use Rattle.gtfs_cli.specs.Judging.{IsFirstBad}
+use Rattle.gtfs_cli.specs.RefusalOrder.{IsFirstBad}
 use Rattle.gtfs_cli.specs.MergeOptions.{judged_merge}
 use Rattle.gtfs_cli.specs.MergeParts.{merge_request_of}
-use Rattle.gtfs_cli.specs.Merges.{merge_plan, HoldsFiles, IsFoldersCause, IsWritingEnd}
-use Rattle.gtfs_cli.specs.NamesReport.{names_report}
-use Rattle.gtfs_cli.specs.Plan.{Ends}
+use Rattle.gtfs_cli.specs.MergeCommand.{merge_plan, HoldsFiles, IsFoldersCause, IsWritingEnd}
+use Rattle.gtfs_cli.specs.MergeReport.{names_report}
+use Rattle.gtfs_cli.specs.CommandPlan.{Ends}
 use Rattle.gtfs_cli.specs.Refusals.{TellsFolders}
 use Rattle.gtfs_cli.specs.declared.commands.refusal.Refusal.{Refusal}
 use Rattle.gtfs_cli.proofs.Plans.{ends-refused, err-up}

@@ -9,7 +9,7 @@ use Rattle.gtfs_table.specs.declared.file.File.{File}
 use Rattle.gtfs_table.specs.declared.file.File.TheVariants as file
 use Rattle.gtfs_rows.specs.Views.{content_of_parts}
 use Rattle.gtfs_cli.specs.MergeParts.{ReadsAs}
-use Rattle.gtfs_cli.specs.Merges.{IsWritingEnd}
+use Rattle.gtfs_cli.specs.MergeCommand.{IsWritingEnd}
 use Rattle.gtfs_cli.proofs.Filed.{file-ends, file-held, files-held, none-held}
 use Rattle.gtfs_cli.proofs.ReadsThen.{asks-as, asks-made, asks-then, asks-up, told-up}
 use Rattle.gtfs_cli.proofs.commands.merge.write_feed.Goals as goal

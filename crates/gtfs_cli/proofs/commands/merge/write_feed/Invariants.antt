@@ -4,8 +4,8 @@ use Rattle.std.specs.List.{All}
 use Rattle.gtfs_table.specs.Reading.{kept_files}
 use Rattle.gtfs_rows.specs.Views.{content_of_parts}
 use Rattle.gtfs_cli.specs.MergeParts.{ReadsAs}
-use Rattle.gtfs_cli.specs.Merges.{HoldsFiles}
-use Rattle.gtfs_cli.specs.Reads.{CallsFolders}
+use Rattle.gtfs_cli.specs.MergeCommand.{HoldsFiles}
+use Rattle.gtfs_cli.specs.FolderCalls.{CallsFolders}
 use Rattle.gtfs_cli.proofs.commands.merge.write_feed.Given as goal
 
 abbrev pub invariant-loop-file : goal.invariant-loop-file

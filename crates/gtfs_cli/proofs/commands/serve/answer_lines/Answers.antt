@@ -1,5 +1,5 @@
 use Rattle.gtfs_conversation.specs.Conversation.{Hearing}
-use Rattle.gtfs_cli.specs.Seen.{Output, Talk}
+use Rattle.gtfs_cli.specs.DevicesSeen.{Output, Talk}
 use Rattle.gtfs_cli.proofs.Served.{converses-all}
 use Rattle.gtfs_cli.proofs.commands.serve.answer_lines.Goals as goal
 

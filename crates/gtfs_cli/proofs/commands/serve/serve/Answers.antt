@@ -1,12 +1,11 @@
 use Rattle.std.proofs.Common.{◌∙◌, inl, inr, refl, subst, arith}
 use Rattle.gtfs_conversation.specs.Conversation.{Hearing}
 use Rattle.gtfs_commands.specs.Words.{serve_texts_of}
-use Rattle.gtfs_cli.specs.FileRead.{IsZoneCause}
-use Rattle.gtfs_cli.specs.HeldFiles.{HoldsZone}
-use Rattle.gtfs_cli.specs.Plan.{Ends}
-use Rattle.gtfs_cli.specs.Refusals.{IsReadingCause}
-use Rattle.gtfs_cli.specs.Seen.{Output, Talk}
-use Rattle.gtfs_cli.specs.Serving.{serve_plan, Converses}
+use Rattle.gtfs_cli.specs.ReadingCauses.{IsZoneCause, IsReadingCause}
+use Rattle.gtfs_cli.specs.FilesInFolders.{HoldsZone}
+use Rattle.gtfs_cli.specs.CommandPlan.{Ends}
+use Rattle.gtfs_cli.specs.DevicesSeen.{Output, Talk}
+use Rattle.gtfs_cli.specs.ServeCommand.{serve_plan, Converses}
 use Rattle.gtfs_cli.specs.declared.commands.refusal.Refusal.{Refusal}
 use Rattle.gtfs_rows.specs.Views.{content_of_parts}
 use Rattle.gtfs_times.specs.declared.times.Times.{Times}

@@ -1,7 +1,7 @@
 use Rattle.std.proofs.Common.{◌∙◌, ap, map}
 use Rattle.gtfs_rows.specs.Views.{content_of_parts}
 use Rattle.gtfs_board.specs.LentSheets.{plain_sheet}
-use Rattle.gtfs_cli.specs.Timetables.{timetable_request_of}
+use Rattle.gtfs_cli.specs.TimetableCommand.{timetable_request_of}
 use Rattle.gtfs_cli.proofs.Tabled.{sheets-printed, sheets-refused}
 use Rattle.gtfs_cli.proofs.commands.timetable.print_sheets.Goals as goal
 

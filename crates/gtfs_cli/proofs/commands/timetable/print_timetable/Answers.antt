@@ -1,11 +1,11 @@
 use Rattle.std.proofs.Common.{Bool, Err, inl, inr, refl, subst, arith}
 use Rattle.gtfs_commands.specs.Words.{timetable_texts_of}
-use Rattle.gtfs_cli.specs.Judging.{IsFirstBad}
-use Rattle.gtfs_cli.specs.Plan.{Ends}
-use Rattle.gtfs_cli.specs.Refusals.{IsReadingCause}
+use Rattle.gtfs_cli.specs.RefusalOrder.{IsFirstBad}
+use Rattle.gtfs_cli.specs.CommandPlan.{Ends}
+use Rattle.gtfs_cli.specs.ReadingCauses.{IsReadingCause}
 use Rattle.gtfs_cli.specs.Sending.{Begins}
 use Rattle.gtfs_cli.specs.TimetableOptions.{judged_timetable}
-use Rattle.gtfs_cli.specs.Timetables.{timetable_judges, timetable_plan, timetable_request_of, IsTimetablePart, IsTimetableText}
+use Rattle.gtfs_cli.specs.TimetableCommand.{timetable_judges, timetable_plan, timetable_request_of, IsTimetablePart, IsTimetableText}
 use Rattle.gtfs_cli.specs.declared.commands.refusal.Refusal.{Refusal}
 use Rattle.gtfs_cli.proofs.Plans.{ends-printed, err-up, prints-none}
 use Rattle.gtfs_cli.proofs.ReadsThen.{asks-done, asks-none}

@@ -1,7 +1,7 @@
 use Rattle.std.proofs.Common.{List, ℕ, subst, sym}
 use Rattle.std.proofs.lemmas.Result.{IfErr-weaker}
-use Rattle.gtfs_cli.specs.FileRead.{IsZoneCause}
-use Rattle.gtfs_cli.specs.HeldFiles.{HoldsBytes}
+use Rattle.gtfs_cli.specs.ReadingCauses.{IsZoneCause}
+use Rattle.gtfs_cli.specs.FilesInFolders.{HoldsBytes}
 use Rattle.gtfs_cli.proofs.FoldersRead.{path-cause}
 use Rattle.gtfs_cli.proofs.ReadsThen.{told-up}
 use Rattle.gtfs_cli.proofs.commands.zone_file.read_zone.Goals as goal

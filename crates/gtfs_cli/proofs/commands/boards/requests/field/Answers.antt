@@ -1,0 +1,7 @@
+use Rattle.std.proofs.Common.{lit<}
+use Rattle.std.proofs.lemmas.Iterator.Consumers.{nth_from_yields_List}
+use Rattle.std.proofs.lemmas.Iterator.Splits.{YieldsList-from_str_split}
+use Rattle.gtfs_cli.proofs.commands.boards.requests.field.Goals as goal
+
+pub returns : goal.returns
+returns c = nth_from_yields_List _ _ c.args.index c.nth.ensures.ran (YieldsList-from_str_split 9 c.args.line.now (lit< tt) c.split.ensures.text c.split.ensures.has_more c.split.ensures.pattern)
