@@ -1,17 +1,18 @@
 -- Lists that lie at ranges of another one.
-use Rattle.std.proofs.Common.{◌≡◌, ◌<◌, ◌≤◌, ◌+◌, ◌-◌, ◌++◌, ◌∷◌, ◌∙◌, [], ℕ, suc, List, length, map, take, drop, get_or, refl, sym, ap, arith, length-append}
+use Rattle.std.proofs.Common.{◌≡◌, ◌<◌, ◌≤◌, ◌+◌, ◌-◌, ◌++◌, ◌∷◌, ◌∙◌, [], ℕ, suc, List, Vec, Global, length, map, take, drop, get_or, refl, sym, ap, arith, length-append}
 use Rattle.std.specs.List.{All}
 use Rattle.std.proofs.Math.Seq.{drop-append_seam}
-use Rattle.std.proofs.lemmas.List.{drop-drop, get_or-map, length-map, map_push, take-append-drop, take_all, take_more}
+use Rattle.std.proofs.lemmas.List.{map_push, take-append-drop, take_all}
 use Rattle.std.proofs.lemmas.List.Elements.{All-push}
 use Rattle.std.proofs.lemmas.Simd.{map-map}
-use Rattle.csv.specs.Records.{Rising}
 use Rattle.gtfs_table.specs.Parts.{parts}
-use Rattle.gtfs_table.proofs.PartFacts.{length-parts, part-at}
 use Rattle.gtfs_stop_times.specs.ByTrip.{AreWithin, StopTimesOfTrips, at_places, items_in, rows_in}
 use Rattle.gtfs_stop_times.specs.StopLists.{LiesIn, stops_in}
+use Rattle.gtfs_stop_times.specs.declared.by_trip.Places.TheVariants as places
+use Rattle.gtfs_stop_times.specs.declared.by_trip.Places.{Places}
 use Rattle.gtfs_stop_times.specs.declared.by_trip.RowRange.{RowRange}
 use Rattle.gtfs_stop_times.specs.declared.stop_row.StopRow.{StopRow}
+use Rattle.gtfs_stop_times.proofs.Places.{lists-are}
 use Rattle.gtfs_stop_times.proofs.RangeFacts.{in-first, items-map}
 
 pub none-within : (size : ℕ) → AreWithin size []
@@ -59,26 +60,13 @@ cut-lies all r =
       is = sym (take-append-drop r.start all) ∙ ap (λ l. take r.start all ++ l) (sym (take-append-drop count later));
     }
 
+lie-first : (all list : List ℕ) (lists : List (List ℕ)) → LiesIn all list → All (LiesIn all) lists → All (LiesIn all) (list ∷ lists)
+lie-first all list lists is are zero d h = is
+lie-first all list lists is are (suc k) d h = are k d (omega (arith, h))
+
 pub all-lie : (all : List ℕ) (ranges : List RowRange) → All (LiesIn all) (map (items_in all) ranges)
 all-lie all [] = λ k d h. absurd (omega (arith, h))
-all-lie all (r ∷ rs) = λ k d h. lie k d h
-  where
-    lie : (k : ℕ) (d : List ℕ) → k < length (items_in all r ∷ map (items_in all) rs) → LiesIn all (get_or (items_in all r ∷ map (items_in all) rs) k d)
-    lie zero d h = cut-lies all r
-    lie (suc k) d h = all-lie all rs k d (omega (arith, h))
-
--- ---- ranges one after the other
-
-pub turn-more : (starts : List ℕ) (xs : List ℕ) (ranges : List RowRange) (t end : ℕ) → t < length starts → map (items_in xs) ranges ≡ take t (parts starts xs) → end ≡ get_or starts (t + 1) (length xs)
-    → map (items_in xs) (ranges ++ record { start = get_or starts t 0; end = end } ∷ []) ≡ take (t + 1) (parts starts xs)
-turn-more starts xs ranges t end below so_far is =
-    let all = parts starts xs in
-    let start = get_or starts t 0 in
-    let here : items_in xs (record { start = start; end = end }) ≡ get_or all t [] =
-    ap (λ e. take (e - start) (drop start xs)) is ∙ sym (part-at starts xs t below) in
-    map_push (items_in xs) ranges (record { start = start; end = end })
-    ∙ (λ i. so_far i ++ here i ∷ [])
-    ∙ sym (take_more all t [] (omega (arith, below, length-parts starts xs)))
+all-lie all (r ∷ rs) = lie-first all (items_in all r) (map (items_in all) rs) (cut-lies all r) (all-lie all rs)
 
 -- ---- the stops of rows are cut as the rows are
 
@@ -86,3 +74,15 @@ pub stops-cut : (rows : List StopRow) (stops : List ℕ) (ranges : List RowRange
 stops-cut rows stops ranges are =
     ap (λ (g : RowRange → List ℕ). map g ranges) (λ i s. (ap (λ xs. items_in xs s) are ∙ items-map (λ row. row.stop_id.0) rows s) i)
     ∙ sym (map-map stops_in (rows_in rows) ranges)
+
+module _ (rows : List StopRow) (p : Places) (t : StopTimesOfTrips) (seen : at_places rows p ≡ t) (stops : List ℕ) where
+  pub in-turn-stops : (starts : Vec ℕ Global) (ranges : List RowRange) → p ≡ places.InTurn starts → stops ≡ stops_in rows → map (rows_in rows) ranges ≡ parts starts.items rows
+      → map (items_in stops) ranges ≡ map stops_in (parts t.starts t.rows)
+  in-turn-stops starts ranges is are cut =
+      stops-cut rows stops ranges are ∙ ap (map stops_in) cut
+      ∙ ap (λ x. map stops_in (parts x.starts x.rows)) (ap (at_places rows) (sym is) ∙ seen)
+
+  pub in-ranges-stops : (more : Vec StopRow Global) (ranges : Vec RowRange Global) (len : ℕ) → p ≡ places.Anywhere more ranges len → stops ≡ stops_in (rows ++ more.items)
+      → map (items_in stops) ranges.items ≡ map stops_in (parts t.starts t.rows)
+  in-ranges-stops more ranges len is are =
+      stops-cut (rows ++ more.items) stops ranges.items are ∙ ap (map stops_in) (lists-are rows p more ranges len is t seen)

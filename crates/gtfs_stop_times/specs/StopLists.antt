@@ -9,4 +9,4 @@ stops_in rows = map (λ row. row.stop_id.0) rows
 pub record LiesIn (all list : List ℕ) : Type 0 where
   pub before : List ℕ
   pub after : List ℕ
-  pub is : all ≡ before ++ list ++ after
+  pub is : all ≡ before ++ (list ++ after)

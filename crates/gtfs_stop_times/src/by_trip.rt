@@ -150,7 +150,7 @@ impl StopTimesByTrip {
         match &self.places {
             Places::InTurn(starts) => {
                 let stops = stops_of(alloc, &self.rows, &[])?;
-                let ranges = ranges_in_turn(alloc, starts, stops.len())?;
+                let ranges = ranges_in_turn(alloc, &self.rows, starts)?;
                 Ok(StopLists::at_ranges(stops, ranges))
             }
             Places::Anywhere(more, ranges, _) => {

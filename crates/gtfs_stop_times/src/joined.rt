@@ -6,8 +6,8 @@ ghost use Rattle.gtfs_stop_times.specs.Joined.{IsTripOf, list_of, trip_rows};
 ghost use Rattle.gtfs_table.specs.Parts.{parts};
 
 use crate::by_trip::{Places, RowRange, StopTimesByTrip};
+use crate::ranges::ranges_in_turn;
 use crate::stop_row::StopRow;
-use crate::stretches::end_of;
 use gtfs_field::OutOfMemory;
 use std::alloc::Global;
 
@@ -110,26 +110,6 @@ fn in_one_list(
     let mut rows = rows;
     rows.extend_from_slice(more)?;
     Ok(RangedRows { rows, ranges })
-}
-
-// Where each trip stands, from its start to the next one.
-fn ranges_in_turn(
-    alloc: Global,
-    rows: &[StopRow],
-    starts: &[usize],
-) -> Result<Vec<RowRange>, OutOfMemory>
-    requires { Rising 0 starts.now (length rows.now) }
-    ensures within { IfOk result (λ ranges. AreWithin (length rows.now) ranges.items) }
-    ensures rows { IfOk result
-        (λ ranges. map (rows_in rows.now) ranges.items ≡ parts starts.now rows.now) }
-{
-    let mut ranges = Vec::with_capacity(alloc, starts.len())?;
-    for trip in 0..starts.len() {
-        let start = starts[trip];
-        let end = end_of(starts, trip, rows.len());
-        ranges.push(RowRange { start, end })?;
-    }
-    Ok(ranges)
 }
 
 // Where each of these trips stands in the rows of the first feed, and in those of the second, which

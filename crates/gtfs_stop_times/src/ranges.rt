@@ -1,7 +1,7 @@
-ghost use Rattle.std.specs.Prelude.{◌≡◌, ◌+◌, ◌-◌, ◌<◌, ◌≤◌, ℕ, List, drop, IfOk, IfSome, length, map, slice_index_or, take};
+ghost use Rattle.std.specs.Prelude.{◌≡◌, ◌+◌, ◌-◌, ◌<◌, ◌≤◌, ℕ, drop, IfOk, IfSome, length, map, slice_index_or, take};
 ghost use Rattle.std.specs.List.{All};
 ghost use Rattle.csv.specs.Records.{Rising};
-ghost use Rattle.gtfs_stop_times.specs.ByTrip.{AreWithin, items_in};
+ghost use Rattle.gtfs_stop_times.specs.ByTrip.{AreWithin, rows_in};
 ghost use Rattle.gtfs_table.specs.Parts.{parts};
 ghost use Rattle.gtfs_stop_times.specs.Headsigned.{numbers_in, rows_at};
 
@@ -63,25 +63,23 @@ fn range(order: &RowNumbers, start: usize, end: usize) -> Option<RowRange>
     })
 }
 
-// Where those of each trip lie in a list of this length in which one trip follows the other, from
-// these starts on.
+// Where each trip stands in rows of which those of one trip follow those of another, from its start
+// to the next one.
 pub(crate) fn ranges_in_turn(
     alloc: Global,
+    rows: &[StopRow],
     starts: &[usize],
-    len: usize,
 ) -> Result<Vec<RowRange>, OutOfMemory>
-    requires { Rising 0 starts.now len }
-    ensures within { IfOk result (λ ranges. AreWithin len ranges.items) }
-    ensures parts { IfOk result (λ ranges. (xs : List ℕ) → length xs ≡ len
-        → map (items_in xs) ranges.items ≡ parts starts.now xs) }
+    requires { Rising 0 starts.now (length rows.now) }
+    ensures within { IfOk result (λ ranges. AreWithin (length rows.now) ranges.items) }
+    ensures rows { IfOk result
+        (λ ranges. map (rows_in rows.now) ranges.items ≡ parts starts.now rows.now) }
 {
     let mut ranges = Vec::with_capacity(alloc, starts.len())?;
     for trip in 0..starts.len() {
-        let end = end_of(starts, trip, len);
-        ranges.push(RowRange {
-            start: starts[trip],
-            end,
-        })?;
+        let start = starts[trip];
+        let end = end_of(starts, trip, rows.len());
+        ranges.push(RowRange { start, end })?;
     }
     Ok(ranges)
 }

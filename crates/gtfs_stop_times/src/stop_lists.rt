@@ -1,4 +1,4 @@
-ghost use Rattle.std.specs.Prelude.{◌≡◌, ◌<◌, ◌++◌, ◌∷◌, [], All, IfOk, OnOk, Some, length, map, slice_get};
+ghost use Rattle.std.specs.Prelude.{◌≡◌, ◌<◌, ◌≤◌, ◌++◌, ◌∷◌, [], All, IfOk, OnOk, Some, length, map, slice_get};
 ghost use Rattle.gtfs_stop_times.specs.ByTrip.{AreWithin, items_in};
 ghost use Rattle.gtfs_stop_times.specs.StopLists.{LiesIn, stops_in};
 
@@ -104,7 +104,8 @@ pub(crate) fn stops_of(
 
 // Adds the stops of these rows.
 fn push_stops(stops: &mut Vec<u32>, rows: &[StopRow]) -> Result<(), OutOfMemory>
-    ensures { OnOk result (stops.new.items ≡ stops.old.items ++ stops_in rows.now) }
+    ensures pushed { OnOk result (stops.new.items ≡ stops.old.items ++ stops_in rows.now) }
+    ensures none_lost { length stops.old.items ≤ length stops.new.items }
 {
     for row in rows {
         match u32::try_from(row.stop_id.0) {

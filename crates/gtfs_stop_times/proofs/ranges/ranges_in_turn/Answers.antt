@@ -5,7 +5,7 @@ use Rattle.gtfs_table.specs.Parts.{parts}
 use Rattle.gtfs_table.proofs.PartFacts.{length-parts, part-at, part-bounds}
 use Rattle.gtfs_stop_times.specs.ByTrip.{AreWithin, rows_in}
 use Rattle.gtfs_stop_times.specs.declared.by_trip.RowRange.{RowRange}
-use Rattle.gtfs_stop_times.proofs.joined.ranges_in_turn.Goals as goal
+use Rattle.gtfs_stop_times.proofs.ranges.ranges_in_turn.Goals as goal
 
 pub loop-trip-preserved : goal.loop-trip-preserved
 loop-trip-preserved c =

@@ -1,7 +1,7 @@
 use Rattle.std.proofs.Common.{◌≡◌, length, map, take}
 use Rattle.gtfs_table.specs.Parts.{parts}
 use Rattle.gtfs_stop_times.specs.ByTrip.{AreWithin, rows_in}
-use Rattle.gtfs_stop_times.proofs.joined.ranges_in_turn.Given as goal
+use Rattle.gtfs_stop_times.proofs.ranges.ranges_in_turn.Given as goal
 
 -- the ranges so far are those of the trips so far
 abbrev pub invariant-loop-trip : goal.invariant-loop-trip
