@@ -11,8 +11,8 @@ use Rattle.gtfs_merge.specs.Merging.{AreNamesOf, AreRowsOfMerge, IsFeedOf, IsLim
 use Rattle.gtfs_merge.specs.Names.{AllNames}
 use Rattle.gtfs_merge.specs.Near.{nearness}
 use Rattle.gtfs_merge.specs.declared.merging.Merged.{Merged}
-use Rattle.gtfs_merge.specs.declared.merging.MergeFault.{MergeFault}
-use Rattle.gtfs_merge.specs.declared.merging.MergeFault.TheVariants as fault
+use Rattle.gtfs_merge.specs.declared.merging.fault.MergeFault.{MergeFault}
+use Rattle.gtfs_merge.specs.declared.merging.fault.MergeFault.TheVariants as fault
 
 -- what was told of the zones of feeds that are lent on is told of the feeds
 pub zone-told : (a b r s : Parts) (answer : Bool) → r ≡ a → s ≡ b → answer ≡ zone_texts_differ (content_of_parts r) (content_of_parts s) → answer ≡ false

@@ -13,8 +13,8 @@ use Rattle.gtfs_rows.specs.declared.agency.Agency.{Agency}
 use Rattle.gtfs_rows.specs.declared.parts.Parts.{Parts}
 use Rattle.gtfs_rows.specs.Views.{IsSoundParts, content_of_parts, agency_of, route_of, service_of, stop_of, agency_ids, service_ids}
 use Rattle.gtfs_rows.proofs.SoundOrder.{trip_ids-kept}
-use Rattle.gtfs_merge.specs.Joined.{joined_number}
-use Rattle.gtfs_merge.specs.Numbered.{known_ids}
+use Rattle.gtfs_merge.specs.FeedIds.{known_ids}
+use Rattle.gtfs_merge.specs.JoinedNumbers.{joined_number}
 use Rattle.gtfs_merge.specs.Renaming.{ids}
 use Rattle.gtfs_merge.specs.Same.{same_agency, same_service}
 use Rattle.gtfs_merge.specs.declared.kind.Kind.{Kind}

@@ -9,7 +9,7 @@ use Rattle.gtfs_field.specs.TextOrder.{text_cmp}
 use Rattle.gtfs_schema.proofs.NamedFacts.{text_turned as bytes_flip}
 use Rattle.gtfs_rows.specs.Order.{Ascends}
 use Rattle.gtfs_rows.proofs.NumberFacts.{own_number}
-use Rattle.gtfs_merge.specs.Joined.{number_if}
+use Rattle.gtfs_merge.specs.JoinedNumbers.{number_if}
 use Rattle.gtfs_merge.specs.Renaming.{joined_by}
 use Rattle.gtfs_merge.proofs.Lookups.{look, look_any, holds_at}
 use Rattle.gtfs_merge.proofs.Premises.{keyed-ascending}

@@ -22,10 +22,10 @@ use Rattle.gtfs_rows.specs.declared.parts.Parts.{Parts}
 use Rattle.gtfs_rows.specs.declared.stop.Stop.{Stop as StopByNumber}
 use Rattle.gtfs_rows.proofs.SoundOrder.{in_order}
 use Rattle.gtfs_rows.proofs.NumberFacts.{own_number, stop_parent}
-use Rattle.gtfs_merge.specs.Joined.{number_if}
+use Rattle.gtfs_merge.specs.JoinedNumbers.{number_if}
 use Rattle.gtfs_nearby.specs.Near.{is_same_parent}
 use Rattle.gtfs_merge.specs.Twins.{became, parent_became}
-use Rattle.gtfs_merge.specs.Numbered.{same_parent_in, same_stop_in}
+use Rattle.gtfs_merge.specs.SameByNumber.{same_parent_in, same_stop_in}
 use Rattle.gtfs_merge.specs.Same.{same_stop, same_text}
 use Rattle.gtfs_merge.specs.Law.{AreFew}
 use Rattle.gtfs_merge.specs.Renaming.{Nearness, Renaming, ids, lists_id, renamed_b, never_near, near_stop_under, joined_stop_under, stop_under, stop_with, stop_within}

@@ -18,10 +18,10 @@ use Rattle.gtfs_rows.specs.Trips.{stop_rows_by_trip, frequencies_by_trip}
 use Rattle.gtfs_rows.proofs.SoundOrder.{in_order}
 use Rattle.gtfs_rows.proofs.TripsAt.{content_trip}
 use Rattle.gtfs_rows.proofs.Members.{In}
-use Rattle.gtfs_merge.specs.Joined.{joined_number, joined_numbers}
-use Rattle.gtfs_merge.specs.Numbered.{same_route_id_in, same_service_id_in, same_trip_in}
+use Rattle.gtfs_merge.specs.JoinedNumbers.{joined_number, joined_numbers}
 use Rattle.gtfs_merge.specs.Renaming.{Renaming, ids, kept_as_is, joined_route, joined_service, route_b, service_b, stop_b, trip_with}
 use Rattle.gtfs_merge.specs.Same.{same_trip}
+use Rattle.gtfs_merge.specs.SameByNumber.{same_route_id_in, same_service_id_in, same_trip_in}
 use Rattle.gtfs_merge.specs.Sides.{nearness_of}
 use Rattle.gtfs_merge.specs.declared.kind.Kind.TheVariants as kind
 use Rattle.gtfs_merge.specs.declared.sides.Sides.{Sides}

@@ -23,17 +23,17 @@ use Rattle.gtfs_field.specs.TextOrder.{text_cmp}
 use Rattle.gtfs_table.specs.Parts.{parts}
 use Rattle.gtfs_merge.specs.Headsigns.{AreHeadsigns, HeadsignTable}
 use Rattle.gtfs_merge.specs.IdRows.{AreIdRows}
-use Rattle.gtfs_merge.specs.KindRows.{AllEntries, AreMergedKinds}
+use Rattle.gtfs_merge.specs.KindEntries.{AllEntries, AreMergedKinds}
 use Rattle.gtfs_merge.specs.Law.{AreFew}
 use Rattle.gtfs_merge.specs.Merged.{zone_texts_differ}
 use Rattle.gtfs_merge.specs.MergedLists.{parts_with}
 use Rattle.gtfs_merge.specs.Sides.{nearness_of, merged_parts, merged_ids}
 use Rattle.gtfs_merge.specs.Transfers.{merged_transfers}
 use Rattle.gtfs_merge.specs.TripRows.{StandInTurn, frequencies_from, stop_rows_from}
-use Rattle.gtfs_merge.specs.declared.id_rows.IdRows.{IdRows}
+use Rattle.gtfs_merge.specs.declared.rows.with_ids.IdRows.{IdRows}
 use Rattle.gtfs_merge.specs.declared.kind.Kind.{Kind}
 use Rattle.gtfs_merge.specs.declared.kind.Kind.TheVariants as kind
-use Rattle.gtfs_merge.specs.declared.merged_frequencies.Frequencies.{Frequencies}
+use Rattle.gtfs_merge.specs.declared.rows.frequencies.Frequencies.{Frequencies}
 use Rattle.gtfs_merge.specs.declared.sides.Sides.{Sides}
 use Rattle.gtfs_merge.proofs.InTurn.{starts-in_turn}
 use Rattle.gtfs_merge.proofs.MergedSound.{merged-sound}

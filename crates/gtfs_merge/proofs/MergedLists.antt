@@ -26,17 +26,17 @@ use Rattle.gtfs_stop_times.specs.declared.stop_row.StopRow.{StopRow}
 use Rattle.gtfs_rows.specs.declared.trip.Trip.{Trip}
 use Rattle.gtfs_table.specs.Parts.{parts}
 use Rattle.gtfs_table.proofs.PartFacts.{length-parts}
-use Rattle.gtfs_merge.specs.MergedKinds.{AreMergedRows, agency_from, route_from, service_from, stop_from, trip_from, trip_under}
-use Rattle.gtfs_merge.specs.Numbered.{known_ids}
-use Rattle.gtfs_merge.specs.Order.{Entry, entry_of, entry_value}
+use Rattle.gtfs_merge.specs.Entries.{Entry, entry_of, entry_value}
+use Rattle.gtfs_merge.specs.EntryRows.{AreMergedRows, agency_from, route_from, service_from, stop_from, trip_from, trip_under}
+use Rattle.gtfs_merge.specs.FeedIds.{known_ids}
+use Rattle.gtfs_merge.specs.NewNumbers.{AreNewNumbers}
 use Rattle.gtfs_merge.specs.Renaming.{Names, Renaming, renaming}
-use Rattle.gtfs_merge.specs.Renumbered.{AreNewNumbers}
 use Rattle.gtfs_merge.specs.Sides.{merged_ids, merged_parts, side_names, side_parts}
 use Rattle.gtfs_merge.specs.declared.kind.Kind.{Kind}
 use Rattle.gtfs_merge.specs.declared.kind.Kind.TheVariants as kind
 use Rattle.gtfs_merge.specs.declared.kind.Side.{Side}
 use Rattle.gtfs_merge.specs.declared.kind.Side.TheVariants as side
-use Rattle.gtfs_merge.specs.declared.order.MergedRow.{MergedRow}
+use Rattle.gtfs_merge.specs.declared.numbering.sorted_rows.MergedRow.{MergedRow}
 use Rattle.gtfs_rows.proofs.NumberFacts.{route_agency, stop_parent, trip_route, trip_service}
 use Rattle.gtfs_merge.specs.declared.sides.Sides.{Sides}
 use Rattle.gtfs_merge.proofs.JoinedKinds.{id-at}

@@ -14,8 +14,8 @@ use Rattle.gtfs_field.specs.TextOrder.{text_cmp}
 use Rattle.gtfs_rows.specs.Order.{Ascends}
 use Rattle.gtfs_rows.proofs.SameElements.{contains-filter, contains-from_filter, contains-from_map, contains-map, pairs-map, same-from_permutation}
 use Rattle.gtfs_rows.proofs.Members.{In, map-In}
+use Rattle.gtfs_merge.specs.Entries.{Entry}
 use Rattle.gtfs_merge.specs.Merged.{by_id}
-use Rattle.gtfs_merge.specs.Order.{Entry}
 use Rattle.gtfs_merge.specs.declared.kind.Side.{Side}
 use Rattle.gtfs_merge.specs.declared.kind.Side.TheVariants as side
 use Rattle.gtfs_merge.proofs.ByNewIds.{AreById, HasEntry, IsRow, by_id-from}

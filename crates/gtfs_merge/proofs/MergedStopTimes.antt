@@ -17,13 +17,13 @@ use Rattle.gtfs_stop_times.specs.declared.stop_row.StopRow.{StopRow as RowByNumb
 use Rattle.gtfs_rows.specs.declared.trip.Trip.{Trip as TripByNumber}
 use Rattle.gtfs_rows.specs.NamedRows.{has_numbers_below, stop_row_named}
 use Rattle.gtfs_table.proofs.PartFacts.{length-parts}
+use Rattle.gtfs_merge.specs.Entries.{Entry}
+use Rattle.gtfs_merge.specs.EntryRows.{trip_from, trip_under}
+use Rattle.gtfs_merge.specs.FeedIds.{known_ids}
 use Rattle.gtfs_merge.specs.Headsigns.{AreHeadsigns, AreNumbersOf, HeadsignTable}
-use Rattle.gtfs_merge.specs.KindRows.{AllEntries, AreMergedKinds}
-use Rattle.gtfs_merge.specs.MergedKinds.{trip_from, trip_under}
-use Rattle.gtfs_merge.specs.Numbered.{known_ids}
-use Rattle.gtfs_merge.specs.Order.{Entry}
+use Rattle.gtfs_merge.specs.KindEntries.{AllEntries, AreMergedKinds}
+use Rattle.gtfs_merge.specs.NewNumbers.{AreNewNumbers}
 use Rattle.gtfs_merge.specs.Renaming.{Renaming, stop_row_with}
-use Rattle.gtfs_merge.specs.Renumbered.{AreNewNumbers}
 use Rattle.gtfs_merge.specs.Sides.{merged_ids, merged_parts, side_names, side_parts}
 use Rattle.gtfs_stop_times.specs.Renumbered.{renumbered_row}
 use Rattle.gtfs_merge.specs.TripRows.{frequencies_from, stop_rows_from}

@@ -16,9 +16,9 @@ use Rattle.gtfs_rows.specs.declared.transfer.Transfer.{Transfer as ByNumber}
 use Rattle.gtfs_rows.proofs.ContentAgain.{transfer_antisymmetric as text_key_antisymmetric, transfer_total}
 use Rattle.gtfs_field.specs.TextOrder.{text_cmp}
 use Rattle.gtfs_rows.proofs.Members.{In, In-append, In-map, list_all-In, list_all-from}
-use Rattle.gtfs_merge.specs.KindRows.{AllEntries, AreMergedKinds}
+use Rattle.gtfs_merge.specs.KindEntries.{AllEntries, AreMergedKinds}
 use Rattle.gtfs_merge.specs.Merged.{by_transfer, transfer_with}
-use Rattle.gtfs_merge.specs.Renumbered.{numbers_of}
+use Rattle.gtfs_merge.specs.NewNumbers.{numbers_of}
 use Rattle.gtfs_merge.specs.Sides.{merged_ids, merged_parts, side_names, side_parts}
 use Rattle.gtfs_merge.specs.Transfers.{IsWithin, ends_cmp, merged_transfers, transfer_on, transfers_on}
 use Rattle.gtfs_merge.specs.declared.kind.Kind.TheVariants as kind

@@ -8,11 +8,11 @@ use Rattle.gtfs_field.specs.TextOrder.{text_cmp}
 use Rattle.gtfs_rows.specs.Content.{Content}
 use Rattle.gtfs_rows.specs.Order.{Ascends}
 use Rattle.gtfs_rows.specs.Views.{IsSoundParts, content_of_parts, text_of_number}
+use Rattle.gtfs_merge.specs.Entries.{Entry, rows_of_a, rows_of_b}
+use Rattle.gtfs_merge.specs.EntryRows.{AreMergedRows, trip_under}
+use Rattle.gtfs_merge.specs.FeedIds.{known_ids}
 use Rattle.gtfs_merge.specs.Law.{AreFew}
 use Rattle.gtfs_merge.specs.Merged.{agency_with, by_id, service_with}
-use Rattle.gtfs_merge.specs.MergedKinds.{AreMergedRows, trip_under}
-use Rattle.gtfs_merge.specs.Numbered.{known_ids}
-use Rattle.gtfs_merge.specs.Order.{Entry, rows_of_a, rows_of_b}
 use Rattle.gtfs_merge.specs.Renaming.{Names, agency_a, agency_b, lists_id, ids, joined_agency, joined_route, joined_service, joined_stop_under, joined_trip, names_a, names_b, renaming, route_with, stop_with, stop_within}
 use Rattle.gtfs_merge.specs.Sides.{side_parts, side_content, nearness_of, side_names}
 use Rattle.gtfs_merge.specs.Twins.{twin_number}

@@ -20,8 +20,8 @@ use Rattle.gtfs_rows.proofs.ByKey.{by_key_is}
 use Rattle.gtfs_rows.proofs.Held.{text_antisymmetric}
 use Rattle.gtfs_rows.proofs.SameElements.{SameElements, contains-filter, contains-from_filter}
 use Rattle.gtfs_merge.specs.Departures.{StaysApart}
+use Rattle.gtfs_merge.specs.FeedIds.{known_ids}
 use Rattle.gtfs_merge.specs.Names.{AllNames, in_kind, kind_names, new_id, new_ids, of_side}
-use Rattle.gtfs_merge.specs.Numbered.{known_ids}
 use Rattle.gtfs_merge.specs.Renaming.{lists_id, ids, name_of_id, Names, Renaming, renaming}
 use Rattle.gtfs_merge.specs.Sides.{is_joined_id, nearness_of, side_names, side_parts}
 use Rattle.gtfs_merge.specs.declared.kind.Kind.{Kind}

@@ -11,9 +11,9 @@ use Rattle.gtfs_rows.specs.Sound.{IsSound, is_sound_agency}
 use Rattle.gtfs_rows.specs.declared.parts.Parts.{Parts}
 use Rattle.gtfs_rows.specs.Views.{IsSoundParts, content_of_parts}
 use Rattle.gtfs_rows.proofs.Members.{In, list_all-In}
+use Rattle.gtfs_merge.specs.FeedIds.{known_ids}
 use Rattle.gtfs_merge.specs.Law.{AreFew, IsNearness}
 use Rattle.gtfs_merge.specs.Names.{is_nameless}
-use Rattle.gtfs_merge.specs.Numbered.{known_ids}
 use Rattle.gtfs_merge.specs.Renaming.{Nearness, lists_id, ids, is_joined, free_id, merged_id, renamed_b, renaming, names_a, names_b, agency_a, agency_b, joined_agency, joined_stop_under, stop_within}
 use Rattle.gtfs_merge.specs.declared.kind.Kind.{Kind}
 use Rattle.gtfs_merge.specs.declared.kind.Kind.TheVariants as kind

@@ -7,8 +7,8 @@ use Rattle.std.proofs.lemmas.List.{get_or-map, length-map}
 use Rattle.std.proofs.lemmas.Option.{get_or_from_slice_get, slice_get_within}
 use Rattle.gtfs_rows.specs.Views.{is_number_within, text_of_number}
 use Rattle.gtfs_merge.specs.Headsigns.{AreNumbersOf}
+use Rattle.gtfs_merge.specs.NewNumbers.{AreNewNumbers}
 use Rattle.gtfs_merge.specs.Renaming.{Renaming}
-use Rattle.gtfs_merge.specs.Renumbered.{AreNewNumbers}
 
 module _ (merged : List (List ℕ)) (rename : Renaming) (olds : List (List ℕ)) (numbers : List ℕ) (are : AreNewNumbers merged rename olds numbers) where
   pub numbers-length : length numbers ≡ length olds

@@ -9,7 +9,7 @@ use Rattle.gtfs_rows.specs.Views.{IsSoundParts, content_of_parts, stop_ids, text
 use Rattle.gtfs_stop_times.specs.declared.numbers.StopNo.{StopNo}
 use Rattle.gtfs_rows.specs.declared.stop.Stop.{Stop as StopByNumber}
 use Rattle.gtfs_rows.proofs.NumberFacts.{stop_parent}
-use Rattle.gtfs_merge.specs.Joined.{number_if}
+use Rattle.gtfs_merge.specs.JoinedNumbers.{number_if}
 use Rattle.gtfs_merge.specs.Renaming.{lists_id, joined_stop, stop_b}
 use Rattle.gtfs_merge.specs.Sides.{nearness_of}
 use Rattle.gtfs_merge.specs.Twins.{became, parent_became, twin_numbers}

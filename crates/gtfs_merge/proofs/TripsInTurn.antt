@@ -16,18 +16,18 @@ use Rattle.gtfs_stop_times.specs.Renumbered.{renumbered_row}
 use Rattle.gtfs_stop_times.specs.declared.joined.TripOf.{TripOf}
 use Rattle.gtfs_stop_times.specs.declared.stop_row.StopRow.{StopRow}
 use Rattle.gtfs_stop_times.proofs.Turns.{end-first, parts-in_turn, parts-map, rising-starts}
+use Rattle.gtfs_merge.specs.Entries.{Entry}
+use Rattle.gtfs_merge.specs.FeedIds.{known_ids}
 use Rattle.gtfs_merge.specs.Headsigns.{HeadsignTable, numbers_on}
-use Rattle.gtfs_merge.specs.KindRows.{AllEntries, AreMergedKinds}
+use Rattle.gtfs_merge.specs.KindEntries.{AllEntries, AreMergedKinds}
 use Rattle.gtfs_merge.specs.MergedLists.{joined_stop_times}
-use Rattle.gtfs_merge.specs.Numbered.{known_ids}
-use Rattle.gtfs_merge.specs.Order.{Entry}
-use Rattle.gtfs_merge.specs.Renumbered.{NewNumbers, numbers_of}
+use Rattle.gtfs_merge.specs.NewNumbers.{NewNumbers, numbers_of}
 use Rattle.gtfs_merge.specs.Sides.{side_parts}
 use Rattle.gtfs_merge.specs.TripRows.{StandInTurn, stop_rows_from, entry_trip, trip_on, with_numbers}
 use Rattle.gtfs_merge.specs.declared.kind.Kind.TheVariants as kind
 use Rattle.gtfs_merge.specs.declared.kind.Side.{Side}
 use Rattle.gtfs_merge.specs.declared.kind.Side.TheVariants as side
-use Rattle.gtfs_merge.specs.declared.merged_lists.MergedLists.{MergedLists}
+use Rattle.gtfs_merge.specs.declared.rows.all_lists.MergedLists.{MergedLists}
 use Rattle.gtfs_merge.specs.declared.sides.Sides.{Sides}
 use Rattle.gtfs_merge.proofs.TripsOfSides.{IsThere}
 

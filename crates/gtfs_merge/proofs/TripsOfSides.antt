@@ -6,14 +6,14 @@ use Rattle.std.proofs.lemmas.Option.{get_or_from_slice_get}
 use Rattle.gtfs_rows.specs.Trips.{frequencies_by_trip}
 use Rattle.gtfs_rows.specs.declared.parts.Parts.{Parts}
 use Rattle.gtfs_rows.proofs.Members.{In}
-use Rattle.gtfs_merge.specs.KindRows.{AllEntries, AreMergedKinds}
-use Rattle.gtfs_merge.specs.Numbered.{known_ids}
-use Rattle.gtfs_merge.specs.Order.{Entry, entry_value}
+use Rattle.gtfs_merge.specs.Entries.{Entry, entry_value}
+use Rattle.gtfs_merge.specs.FeedIds.{known_ids}
+use Rattle.gtfs_merge.specs.KindEntries.{AllEntries, AreMergedKinds}
 use Rattle.gtfs_merge.specs.Sides.{side_parts}
 use Rattle.gtfs_merge.specs.TripRows.{StandInTurn}
 use Rattle.gtfs_merge.specs.declared.kind.Kind.TheVariants as kind
 use Rattle.gtfs_merge.specs.declared.kind.Side.{Side}
-use Rattle.gtfs_merge.specs.declared.order.MergedRow.{MergedRow}
+use Rattle.gtfs_merge.specs.declared.numbering.sorted_rows.MergedRow.{MergedRow}
 use Rattle.gtfs_merge.specs.declared.sides.Sides.{Sides}
 use Rattle.gtfs_merge.proofs.InTurn.{all-mapped}
 

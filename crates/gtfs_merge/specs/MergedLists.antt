@@ -8,9 +8,9 @@ use Rattle.gtfs_stop_times.specs.ByTrip.{StopTimesOfTrips, in_turn}
 use Rattle.gtfs_stop_times.specs.Joined.{IsTripOf, trip_rows}
 use Rattle.gtfs_merge.specs.Sides.{merged_parts}
 use Rattle.gtfs_merge.specs.TripRows.{with_numbers}
-use Rattle.gtfs_merge.specs.declared.id_rows.IdRows.{IdRows}
-use Rattle.gtfs_merge.specs.declared.merged_frequencies.Frequencies.{Frequencies}
-use Rattle.gtfs_merge.specs.declared.merged_lists.MergedLists.{MergedLists}
+use Rattle.gtfs_merge.specs.declared.rows.with_ids.IdRows.{IdRows}
+use Rattle.gtfs_merge.specs.declared.rows.frequencies.Frequencies.{Frequencies}
+use Rattle.gtfs_merge.specs.declared.rows.all_lists.MergedLists.{MergedLists}
 use Rattle.gtfs_merge.specs.declared.sides.Sides.{Sides}
 
 abbrev pub parts_with : IdRows → List Transfer → StopTimesOfTrips → Frequencies → List (List ℕ) → Parts

@@ -19,10 +19,10 @@ use Rattle.gtfs_merge.specs.Renaming.{ids, joined_ids, name_of_id, names_a, name
 use Rattle.gtfs_merge.specs.declared.kind.Kind.{Kind}
 use Rattle.gtfs_merge.specs.declared.kind.Side.{Side}
 use Rattle.gtfs_merge.specs.declared.kind.Side.TheVariants as side
-use Rattle.gtfs_merge.specs.declared.merged_lists.MergedLists.{MergedLists}
+use Rattle.gtfs_merge.specs.declared.rows.all_lists.MergedLists.{MergedLists}
 use Rattle.gtfs_merge.specs.declared.merging.Merged.{Merged}
-use Rattle.gtfs_merge.specs.declared.merging.MergeFault.{MergeFault}
-use Rattle.gtfs_merge.specs.declared.merging.MergeFault.TheVariants as fault
+use Rattle.gtfs_merge.specs.declared.merging.fault.MergeFault.{MergeFault}
+use Rattle.gtfs_merge.specs.declared.merging.fault.MergeFault.TheVariants as fault
 
 -- the most bytes of a file where no other limit is given
 abbrev pub default_file_limit : ℕ

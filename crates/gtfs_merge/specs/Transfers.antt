@@ -8,8 +8,8 @@ use Rattle.std.specs.declared.cmp.Ordering.{Ordering}
 use Rattle.gtfs_rows.specs.TransferEnds.{transfer_numbers}
 use Rattle.gtfs_rows.specs.Order.{by_key}
 use Rattle.gtfs_rows.specs.declared.transfer.Transfer.{Transfer}
-use Rattle.gtfs_merge.specs.KindRows.{AllEntries}
-use Rattle.gtfs_merge.specs.Renumbered.{numbers_of}
+use Rattle.gtfs_merge.specs.KindEntries.{AllEntries}
+use Rattle.gtfs_merge.specs.NewNumbers.{numbers_of}
 use Rattle.gtfs_merge.specs.Sides.{side_parts}
 use Rattle.gtfs_merge.specs.declared.kind.Side.{Side}
 use Rattle.gtfs_merge.specs.declared.kind.Side.TheVariants as side

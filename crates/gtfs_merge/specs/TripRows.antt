@@ -10,9 +10,9 @@ use Rattle.gtfs_stop_times.specs.declared.joined.TripOf.TheVariants as trip
 use Rattle.gtfs_stop_times.specs.declared.joined.TripOf.{TripOf}
 use Rattle.gtfs_stop_times.specs.declared.stop_row.StopRow.{StopRow}
 use Rattle.gtfs_table.specs.Parts.{parts}
+use Rattle.gtfs_merge.specs.Entries.{Entry}
 use Rattle.gtfs_merge.specs.Headsigns.{HeadsignTable, numbers_on}
-use Rattle.gtfs_merge.specs.Order.{Entry}
-use Rattle.gtfs_merge.specs.Renumbered.{NewNumbers, numbers_of}
+use Rattle.gtfs_merge.specs.NewNumbers.{NewNumbers, numbers_of}
 use Rattle.gtfs_merge.specs.Sides.{side_parts}
 use Rattle.gtfs_merge.specs.declared.kind.Side.{Side}
 use Rattle.gtfs_merge.specs.declared.kind.Side.TheVariants as side

@@ -3,7 +3,7 @@ use Rattle.std.specs.Prelude.{ℕ, Bool, false, if◌then◌else◌, List, [], �
 use Rattle.gtfs_rows.specs.Views.{stop_ids, text_of_number}
 use Rattle.gtfs_rows.specs.declared.stop.Stop.{Stop}
 use Rattle.gtfs_nearby.specs.Near.{NearStops}
-use Rattle.gtfs_merge.specs.Numbered.{known_ids}
+use Rattle.gtfs_merge.specs.FeedIds.{known_ids}
 use Rattle.gtfs_merge.specs.Renaming.{Renaming, renaming}
 use Rattle.gtfs_merge.specs.Sides.{side_names, is_joined_id}
 use Rattle.gtfs_merge.specs.declared.kind.Kind.{Kind}

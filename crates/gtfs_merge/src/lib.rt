@@ -19,43 +19,23 @@
 //! a cutoff leaves, and `specs/Report.antt` what is told of a merge.
 #![tactic(auto)]
 
-mod headsigns;
-mod id_rows;
-mod joined;
-mod joined_routes;
-mod joined_trips;
+mod comparing;
+mod feed_ids;
+mod joining;
 mod kind;
-mod kind_rows;
-mod kinds;
 mod law;
-mod merged_agencies;
-mod merged_frequencies;
-mod merged_kinds;
-mod merged_lists;
-mod merged_routes;
-mod merged_services;
-mod merged_stops;
-mod merged_transfers;
-mod merged_trips;
 mod merging;
 mod names;
-mod new_ids;
-mod new_names;
-mod numbers;
-mod order;
-mod renamed;
-mod renumbered;
-mod same_rows;
-mod same_services;
-mod same_stop_times;
-mod same_values;
+mod numbering;
+mod row_numbers;
+mod rows;
 mod sides;
-mod stop_twins;
-mod twins;
 mod zones;
 
 pub use kind::{Kind, Side};
 pub use law::{cuts_keep_departures, merges_keep_departures};
-pub use merging::{MergeFault, Merged, Options, merge, merge_owned};
+pub use merging::fault::MergeFault;
+pub use merging::options::Options;
+pub use merging::{Merged, merge, merge_owned};
 pub use names::Names;
 pub use zones::zones_differ;

@@ -1,56 +1,26 @@
-ghost use Rattle.std.specs.Prelude.{◌≡◌, ◌≤◌, IfErr, IfOk, IfSome, None, Some, false, true};
+ghost use Rattle.std.specs.Prelude.{◌≡◌, ◌≤◌, IfErr, IfOk, IfSome, true};
 ghost use Rattle.std.specs.Cow.{cow_value};
-ghost use Rattle.gtfs_days.specs.Cut.{cut_day};
 ghost use Rattle.gtfs_days.specs.Service.{is_service_day};
-ghost use Rattle.gtfs_rows.specs.Trimmed.{trimmed};
-ghost use Rattle.gtfs_rows.specs.Views.{IsSoundParts, content_of_parts};
-ghost use Rattle.gtfs_merge.specs.Merged.{zone_texts_differ};
-ghost use Rattle.gtfs_merge.specs.Merging.{AreListsOfPair, AreRowsOfMerge, IsFeedOf, IsLimitFault, IsMergeOf, IsRefusal, KeepsDepartures};
+ghost use Rattle.gtfs_rows.specs.Views.{content_of_parts};
+ghost use Rattle.gtfs_merge.specs.Merging.{IsMergeOf, IsRefusal, KeepsDepartures};
 
-use crate::merged_lists::MergedLists;
+mod cutoff;
+pub(crate) mod fault;
+mod file_limit;
+pub(crate) mod options;
+mod steps;
+
+use crate::merging::cutoff::rows_of;
+use crate::merging::fault::MergeFault;
+use crate::merging::file_limit::limited;
+use crate::merging::options::Options;
 use crate::names::Names;
 use crate::sides::Sides;
-use crate::twins::Twins;
 use crate::zones::zones_differ;
-use gtfs_days::Cut;
 use gtfs_feed::Feed;
-use gtfs_field::{Day, OutOfMemory};
-use gtfs_rows::{Parts, StopTimesByTrip};
 use std::alloc::Global;
 use std::borrow::Cow;
 use std::hash::RandomState;
-use thiserror::Error;
-
-/// What a merge keeps to.
-#[derive(Clone, Copy, Debug, PartialEq, Eq)]
-pub struct Options {
-    /// How many bytes each file of the merged feed may have at most, as [`Feed::file_text`] gives
-    /// it. Where nothing else is said, 1,073,741,824.
-    pub file_limit: u64,
-    /// Up to how many millionths of a degree a stop of the second feed may lie from one of the
-    /// first, in latitude and in longitude, to become that stop: see [`Names::near`]. At most
-    /// 2,147,483,647. Where nothing else is said, no stop does.
-    pub near: Option<u32>,
-    /// The service day from which on the second feed is taken, and the first one only before it.
-    /// Its year is at most 9998. Where nothing else is said, both feeds are taken whole.
-    pub cutoff: Option<Day>,
-}
-
-impl Default for Options {
-    ghost use Rattle.std.specs.Prelude.{◌≡◌, None};
-    ghost use Rattle.gtfs_merge.specs.Merging.{default_file_limit};
-
-    ghost is_default = { λ options. (options.file_limit ≡ default_file_limit)
-        × (options.near ≡ None) × (options.cutoff ≡ None) };
-
-    fn default() -> Options {
-        Options {
-            file_limit: 1_073_741_824,
-            near: None,
-            cutoff: None,
-        }
-    }
-}
 
 /// Two feeds in one, and what their ids became.
 pub struct Merged {
@@ -65,31 +35,6 @@ pub struct Merged {
 impl Drop for Merged {
     fn drop(self) {
         let Merged { feed: _, names: _ } = self;
-    }
-}
-
-/// Why two feeds are not merged.
-#[derive(Clone, Copy, Debug, PartialEq, Eq, Error)]
-pub enum MergeFault {
-    /// The times of the two feeds are in zones of different names, which is judged first.
-    #[error("zones differ")]
-    ZoneDiffers = 1,
-    /// The text of some file of the merged feed is longer than the limit.
-    #[error("merged feed too large")]
-    TooLarge = 2,
-    /// Memory was refused, or stop times have more than 4,294,967,295 different headsigns.
-    #[error("out of memory")]
-    OutOfMemory = 3,
-}
-
-impl From<OutOfMemory> for MergeFault {
-    ghost use Rattle.std.specs.Prelude.{◌≡◌};
-    ghost use Rattle.gtfs_merge.specs.declared.merging.MergeFault.TheVariants.{OutOfMemory as no_memory};
-
-    ghost from_gives = { λ _ fault. fault ≡ no_memory };
-
-    fn from(_refused: OutOfMemory) -> MergeFault {
-        MergeFault::OutOfMemory
     }
 }
 
@@ -131,7 +76,7 @@ pub fn merge(
         near: options.near,
     };
     sides.soundness();
-    judged(alloc, random, Cow::Borrowed(a), Cow::Borrowed(b), options)
+    merge_lent_or_owned(alloc, random, Cow::Borrowed(a), Cow::Borrowed(b), options)
 }
 
 /// The same of two feeds that are given up. With a cutoff each is let go as soon as it is trimmed,
@@ -161,12 +106,12 @@ pub fn merge_owned(
         near: options.near,
     };
     sides.soundness();
-    judged(alloc, random, Cow::Owned(a), Cow::Owned(b), options)
+    merge_lent_or_owned(alloc, random, Cow::Owned(a), Cow::Owned(b), options)
 }
 
 // The merged feed, or why there is none; the zones are judged first.
 // The feeds are lent or given up.
-fn judged(
+fn merge_lent_or_owned(
     alloc: Global,
     random: RandomState,
     a: Cow<'_, Feed>,
@@ -186,139 +131,4 @@ fn judged(
     }
     let rows = rows_of(alloc, random, a, b, options)?;
     limited(alloc, random, rows, options.file_limit)
-}
-
-// The rows of the merged feed, and what the ids of both feeds became.
-fn rows_of(
-    alloc: Global,
-    random: RandomState,
-    a: Cow<'_, Feed>,
-    b: Cow<'_, Feed>,
-    options: &Options,
-) -> Result<(Parts, Names), OutOfMemory>
-    requires zone { zone_texts_differ (content_of_parts (cow_value a))
-        (content_of_parts (cow_value b)) ≡ false }
-    requires cutoff { IfSome options.now.cutoff (λ d. is_service_day d ≡ true) }
-    ensures { IfOk result (AreRowsOfMerge options.now.near options.now.cutoff
-        (content_of_parts (cow_value a.entry)) (content_of_parts (cow_value b.entry))) }
-{
-    match options.cutoff {
-        Some(day) => rows_cut_at(alloc, random, a, b, day, options.near),
-        None => rows_of_pair(alloc, random, a, b, options.near),
-    }
-}
-
-// The same of the first feed before a day and of the second one from it on. A feed that is given up
-// is let go before more is made of the other one.
-fn rows_cut_at(
-    alloc: Global,
-    random: RandomState,
-    a: Cow<'_, Feed>,
-    b: Cow<'_, Feed>,
-    day: Day,
-    near: Option<u32>,
-) -> Result<(Parts, Names), OutOfMemory>
-    requires zone { zone_texts_differ (content_of_parts (cow_value a))
-        (content_of_parts (cow_value b)) ≡ false }
-    requires day { is_service_day day ≡ true }
-    ensures { IfOk result (AreRowsOfMerge near (Some day)
-        (content_of_parts (cow_value a.entry)) (content_of_parts (cow_value b.entry))) }
-{
-    let first = trimmed(alloc, random, a, Cut::Before(day))?;
-    let second = trimmed(alloc, random, b, Cut::From(day))?;
-    rows_of_pair(alloc, random, Cow::Owned(first), Cow::Owned(second), near)
-}
-
-// What is left of a feed. If it is given up, it is let go.
-fn trimmed(
-    alloc: Global,
-    random: RandomState,
-    feed: Cow<'_, Feed>,
-    cut: Cut,
-) -> Result<Feed, OutOfMemory>
-    requires { is_service_day (cut_day cut) ≡ true }
-    ensures { IfOk result (λ left.
-        content_of_parts left ≡ trimmed cut (content_of_parts (cow_value feed.entry))) }
-{
-    left_of(alloc, random, feed.as_ref(), cut)
-}
-
-// What is left of a feed that is lent.
-fn left_of(alloc: Global, random: RandomState, feed: &Feed, cut: Cut) -> Result<Feed, OutOfMemory>
-    requires { is_service_day (cut_day cut) ≡ true }
-    ensures { IfOk result
-        (λ left. content_of_parts left ≡ trimmed cut (content_of_parts feed.now)) }
-{
-    feed.trimmed(alloc, random, cut)
-}
-
-// The same of both feeds as they are. Of one that is given up only the stop times are left once
-// all else is merged.
-fn rows_of_pair(
-    alloc: Global,
-    random: RandomState,
-    a: Cow<'_, Feed>,
-    b: Cow<'_, Feed>,
-    near: Option<u32>,
-) -> Result<(Parts, Names), OutOfMemory>
-    requires { zone_texts_differ (content_of_parts (cow_value a))
-        (content_of_parts (cow_value b)) ≡ false }
-    ensures { IfOk result (AreRowsOfMerge near None
-        (content_of_parts (cow_value a.entry)) (content_of_parts (cow_value b.entry))) }
-{
-    let (lists, names) = lists_of_pair(alloc, random, a.as_ref(), b.as_ref(), near)?;
-    let first = stop_times_of(alloc, a)?;
-    let second = stop_times_of(alloc, b)?;
-    let parts = lists.with_stop_times(alloc, first, second)?;
-    Ok((parts, names))
-}
-
-// All lists of the merged feed but its stop times, and what the ids of both feeds became.
-fn lists_of_pair(
-    alloc: Global,
-    random: RandomState,
-    a: &Feed,
-    b: &Feed,
-    near: Option<u32>,
-) -> Result<(MergedLists, Names), OutOfMemory>
-    requires { zone_texts_differ (content_of_parts a.now) (content_of_parts b.now) ≡ false }
-    ensures { IfOk result (AreListsOfPair near a.now b.now) }
-{
-    let sides = Sides { a, b, near };
-    sides.soundness();
-    let twins = Twins::of_feeds(alloc, &sides)?;
-    let names = Names::of_twins(alloc, &sides, &twins)?;
-    let lists = MergedLists::of_feeds(alloc, random, &sides, &twins, &names)?;
-    Ok((lists, names))
-}
-
-// The stop times of a feed. One that is given up is let go but for them.
-fn stop_times_of(alloc: Global, feed: Cow<'_, Feed>) -> Result<StopTimesByTrip, OutOfMemory>
-    ensures { IfOk result
-        (λ stop_times. stop_times ≡ (cow_value feed.entry).stop_times) }
-{
-    match feed {
-        Cow::Borrowed(feed) => feed.parts().stop_times.copied(alloc),
-        Cow::Owned(feed) => Ok(feed.into_stop_times()),
-    }
-}
-
-// The feed of these rows, unless a file of it is too long.
-fn limited(
-    alloc: Global,
-    random: RandomState,
-    rows: (Parts, Names),
-    file_limit: u64,
-) -> Result<Merged, MergeFault>
-    requires { IsSoundParts rows.0 }
-    ensures merged { IfOk result (IsFeedOf rows file_limit) }
-    ensures refused { IfErr result (IsLimitFault (content_of_parts rows.0) file_limit) }
-{
-    let (parts, names) = rows;
-    let feed = Feed::assemble(alloc, random, parts)?;
-    let is_too_large = feed.has_longer_file(alloc, file_limit)?;
-    if is_too_large {
-        return Err(MergeFault::TooLarge);
-    }
-    Ok(Merged { feed, names })
 }

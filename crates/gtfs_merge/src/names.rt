@@ -1,19 +1,21 @@
-ghost use Rattle.std.specs.Prelude.{◌≡◌, ◌<◌, ◌∷◌, ◌++◌, [], IfOk, OnOk, Some, filter, length, option_map, slice_index_or};
+ghost use Rattle.std.specs.Prelude.{◌≡◌, ◌<◌, [], IfOk, Some, length, option_map, slice_index_or};
 ghost use Rattle.gtfs_merge.specs.Merging.{AreNamesOf};
 ghost use Rattle.gtfs_merge.specs.Names.{AreKindNames, ArePairedNames, in_kind, kind_names, new_id, of_side};
-ghost use Rattle.gtfs_merge.specs.Near.{near_pairs};
-ghost use Rattle.gtfs_merge.specs.Numbered.{known_ids};
-ghost use Rattle.gtfs_merge.specs.Renaming.{joined_ids};
-ghost use Rattle.gtfs_merge.specs.Sides.{content_a, content_b, nearness_of, is_joined_id};
-ghost use Rattle.gtfs_merge.specs.Twins.{near_at, pairs_at, twin_rows};
-ghost use Rattle.gtfs_merge.specs.declared.kind.Kind.TheVariants as kind;
+ghost use Rattle.gtfs_merge.specs.Sides.{content_a, content_b};
+ghost use Rattle.gtfs_merge.specs.Twins.{twin_rows};
 
+mod free_ids;
+mod joined_ids;
+mod near_pairs;
+mod new_ids;
+mod renamed;
+
+use crate::joining::twins::Twins;
 use crate::kind::{Kind, Side};
-use crate::kinds::{count_of, id_of};
-use crate::new_names::is_joined_row;
-use crate::renamed::Renamed;
+use crate::names::joined_ids::joined_ids;
+use crate::names::near_pairs::near_pairs;
+use crate::names::renamed::Renamed;
 use crate::sides::Sides;
-use crate::twins::Twins;
 use gtfs_field::{OutOfMemory, Text};
 use std::alloc::Global;
 use std::marker::Model;
@@ -222,96 +224,4 @@ impl KindNames {
             Side::B => self.b.ids(),
         }
     }
-}
-
-// The joined ids of a kind. They stand in both feeds, and in the same order.
-fn joined_ids(
-    alloc: Global,
-    sides: &Sides,
-    twins: &Twins,
-    kind: Kind,
-) -> Result<Vec<Text>, OutOfMemory>
-    requires { twins.now ≡ twin_rows sides.now }
-    ensures { IfOk result (λ found. found.items
-        ≡ joined_ids (nearness_of sides.now) kind (content_a sides.now) (content_b sides.now)) }
-{
-    sides.soundness();
-    let mut found = Vec::new(alloc);
-    for number in 0..count_of(sides.b, kind) {
-        push_if_joined(alloc, sides, twins, kind, number, &mut found)?;
-    }
-    Ok(found)
-}
-
-// Adds the id of a number of B if it is joined.
-fn push_if_joined(
-    alloc: Global,
-    sides: &Sides,
-    twins: &Twins,
-    kind: Kind,
-    number: usize,
-    found: &mut Vec<Text>,
-) -> Result<(), OutOfMemory>
-    requires twins { twins.now ≡ twin_rows sides.now }
-    requires within { number < length (known_ids kind sides.now.b.now) }
-    ensures { OnOk result (found.new.items ≡ found.old.items
-        ++ filter (is_joined_id kind sides.now)
-        (slice_index_or (known_ids kind sides.now.b.now) number [] ∷ [])) }
-{
-    if is_joined_row(sides, twins, kind, number) {
-        found.push(Text::copy_of(alloc, id_of(sides.b, kind, number))?)?;
-    }
-    Ok(())
-}
-
-// The near stops of B with those of A that they are near.
-fn near_pairs(alloc: Global, sides: &Sides, twins: &Twins) -> Result<Vec<(Text, Text)>, OutOfMemory>
-    requires { twins.now ≡ twin_rows sides.now }
-    ensures { IfOk result (λ pairs. pairs.items
-        ≡ near_pairs (nearness_of sides.now) (content_a sides.now) (content_b sides.now)) }
-{
-    sides.soundness();
-    let mut pairs = Vec::new(alloc);
-    for number in 0..count_of(sides.b, Kind::Stop) {
-        push_if_near(alloc, sides, twins, number, &mut pairs)?;
-    }
-    Ok(pairs)
-}
-
-// Adds a stop of B with the one of A that it is near, if there is one.
-fn push_if_near(
-    alloc: Global,
-    sides: &Sides,
-    twins: &Twins,
-    number: usize,
-    pairs: &mut Vec<(Text, Text)>,
-) -> Result<(), OutOfMemory>
-    requires twins { twins.now ≡ twin_rows sides.now }
-    requires within { number < length (known_ids kind.Stop sides.now.b.now) }
-    ensures { OnOk result (pairs.new.items ≡ pairs.old.items
-        ++ pairs_at sides.now (near_at (twin_rows sides.now) number) number) }
-{
-    match twins.near(number) {
-        Some(first) => push_pair(alloc, sides, number, first, pairs),
-        None => Ok(()),
-    }
-}
-
-// Adds a stop of B with one of A.
-fn push_pair(
-    alloc: Global,
-    sides: &Sides,
-    number: usize,
-    first: usize,
-    pairs: &mut Vec<(Text, Text)>,
-) -> Result<(), OutOfMemory>
-    requires number { number < length (known_ids kind.Stop sides.now.b.now) }
-    requires first { first < length (known_ids kind.Stop sides.now.a.now) }
-    ensures { OnOk result (pairs.new.items ≡ pairs.old.items
-        ++ pairs_at sides.now (Some first) number) }
-{
-    let own = Text::copy_of(alloc, id_of(sides.b, Kind::Stop, number))?;
-    let other = Text::copy_of(alloc, id_of(sides.a, Kind::Stop, first))?;
-    pairs.push((own, other))?;
-    Ok(())
 }

@@ -1,0 +1,23 @@
+use Rattle.std.proofs.Common.{◌<◌, ◌≤◌, ◌∙◌, [], ap, length, map, option_map, arith}
+use Rattle.std.proofs.lemmas.List.{length-map, take_all}
+use Rattle.gtfs_rows.specs.Views.{stop_ids}
+use Rattle.gtfs_merge.specs.Twins.{twin_number}
+use Rattle.gtfs_merge.specs.declared.kind.Kind.TheVariants as kind
+use Rattle.gtfs_merge.proofs.JoinedRows.{numbered_more}
+use Rattle.gtfs_merge.proofs.joining.stop_twins.all_twins.Goals as goal
+
+pub loop-number-init : goal.loop-number-init
+loop-number-init c = ap (map (option_map (λ n. n.0))) c.in_ok-twins.ensures.items
+
+pub loop-number-preserved : goal.loop-number-preserved
+loop-number-preserved c =
+    let ids = stop_ids c.args.sides.now.b.now in
+    let within : c.loop-number.number < length ids = omega (arith, c.stop_count-number-end.ensures, length-map c.args.sides.now.b.now.stops (λ x. x.stop_id)) in
+    numbered_more (λ n. n.0) (twin_number kind.Stop c.args.sides.now) ids [] c.loop-number.number _ _ c.stop_within.result within
+    c.loop-number.invariant c.in_ok-push.ensures.items c.stop_within.ensures
+
+pub returns : goal.returns
+returns c =
+    let ids = stop_ids c.args.sides.now.b.now in
+    let past : length ids ≤ c.loop-number.number = omega (arith, c.stop_count-number-end.ensures, length-map c.args.sides.now.b.now.stops (λ x. x.stop_id)) in
+    c.loop-number.invariant ∙ ap (map (twin_number kind.Stop c.args.sides.now)) (take_all c.loop-number.number ids past)

@@ -1,9 +1,0 @@
-use Rattle.std.proofs.Common.{◌≡◌, Some, map, take}
-use Rattle.gtfs_rows.specs.Views.{agency_of}
-use Rattle.gtfs_merge.specs.MergedKinds.{agency_from}
-use Rattle.gtfs_merge.specs.Order.{entry_value}
-use Rattle.gtfs_merge.proofs.merged_agencies.merged_agencies.Given as goal
-
--- the agencies so far
-abbrev pub invariant-loop-row : goal.invariant-loop-row
-invariant-loop-row l = map (λ r. Some (agency_of r)) l.list.items ≡ map (agency_from l.sides) (take l.row-index (map entry_value l.rows))

@@ -1,8 +1,0 @@
-use Rattle.std.proofs.Common.{◌≡◌, map, take}
-use Rattle.gtfs_merge.specs.Order.{entry_value}
-use Rattle.gtfs_merge.specs.TripRows.{entry_trip}
-use Rattle.gtfs_merge.proofs.merged_lists.trips_of.Given as goal
-
--- the trips so far
-abbrev pub invariant-loop-row : goal.invariant-loop-row
-invariant-loop-row l = l.trips.items ≡ map entry_trip (map entry_value (take l.row-index l.rows))
