@@ -35,11 +35,7 @@ impl StopLists {
     ///
     /// # Errors
     /// `OutOfMemory` where memory is refused.
-    pub fn with_room(
-        alloc: Global,
-        lists: usize,
-        stops: usize,
-    ) -> Result<StopLists, OutOfMemory>
+    pub fn with_room(alloc: Global, lists: usize, stops: usize) -> Result<StopLists, OutOfMemory>
         ensures { IfOk result (λ lists. lists ≡ []) }
     {
         Ok(StopLists {
