@@ -21,7 +21,7 @@ use std::io::{BufReader, BufWriter, Input};
 use std::process::ExitCode;
 use std::random::RandomSource;
 use std::rt::{Env, Runtime};
-use words::read_words;
+use words::program_words;
 
 // How many bytes of the output are sent at a time: some hundred lines of a board.
 const BUFFER: usize = 65_536;
@@ -47,7 +47,7 @@ fn answer<R: Runtime + Input + Env + RandomSource + AllocGlobal, E: Out>(
     ensures untold { IfErr result (λ fault. fault ≢ OutputFailed
         → Keeps (E.told err.old) (E.told err.new)) }
 {
-    let words = read_words(rt)?;
+    let words = program_words(rt)?;
     let random = RandomState::new(rt).map_err(|_| Fault::NoRandomSource)?;
     let _kept = keep_memory(rt, words.as_slice());
     answer_words(rt, random, words.as_slice(), err)

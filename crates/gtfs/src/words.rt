@@ -10,7 +10,7 @@ use std::rt::Env;
 /// The words of the command line, of which the first is the program's name.
 ///
 /// Refused with BadWords where one of them is not UTF-8, and with OutOfMemory.
-pub fn read_words<R: Env + AllocGlobal>(rt: &R) -> Result<Vec<String>, Fault>
+pub fn program_words<R: Env + AllocGlobal>(rt: &R) -> Result<Vec<String>, Fault>
     ensures refused { IfErr result IsWordsFault }
 {
     match env::args(rt) {

@@ -14,7 +14,7 @@ use Rattle.gtfs_schema.specs.Values.{if_both}
 use Rattle.gtfs_rows.specs.Order.{Ascends}
 use Rattle.gtfs_rows.specs.Rows.{StopRow, Trip}
 use Rattle.gtfs_rows.specs.Runs.{first_leaves, is_timed}
-use Rattle.gtfs_rows.specs.Trips.{left_at, reached_at}
+use Rattle.gtfs_stop_times.specs.RowTimes.{left_at, reached_at}
 use Rattle.gtfs_rows.specs.Views.{IsSoundParts, content_of_parts, stop_ids, stop_of, stop_row_of, text_of_number}
 use Rattle.gtfs_rows.specs.declared.parts.Parts.{Parts}
 use Rattle.gtfs_rows.proofs.SameElements.{pairs-map}

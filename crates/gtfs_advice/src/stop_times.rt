@@ -8,7 +8,7 @@ ghost use Rattle.gtfs_advice.specs.NumberedRows.{are_too_fast, have_one_stop, Go
 
 use crate::advice::{Advice, Subject, tell};
 use crate::code::Code;
-use crate::reached_and_left::{first_left_at, last_reached_at, left_at, reached_at};
+use crate::reached_and_left::{first_left_at, last_reached_at};
 use gtfs_feed::Feed;
 use gtfs_field::{Coord, OutOfMemory};
 use gtfs_rows::{DropOffType, PickupType, Stop, StopRow, TripNo};
@@ -111,7 +111,7 @@ fn is_at_one_moment(rows: &[StopRow]) -> bool
     let (Some(left), Some(reached)) = (first_left_at(rows), last_reached_at(rows)) else {
         return false;
     };
-    left == reached && rows.iter().all(|row| left_at(row).is_some())
+    left == reached && rows.iter().all(|row| row.is_timed())
 }
 
 // Whether a row lies farther from the next one than 500 km/h allow, with a minute more.
@@ -132,7 +132,7 @@ fn are_too_fast(latitudes: &[Option<Coord>], pair: &[StopRow]) -> bool
     let (Some(from), Some(to)) = (latitude_at(latitudes, row), latitude_at(latitudes, next)) else {
         return false;
     };
-    let (Some(left), Some(reached)) = (left_at(row), reached_at(next)) else {
+    let (Some(left), Some(reached)) = (row.departs(), next.arrives()) else {
         return false;
     };
     let seconds = reached.seconds().saturating_sub(left.seconds()) + 60;

@@ -35,7 +35,8 @@ use Rattle.gtfs_rows.specs.declared.trip.Trip.{Trip as TripRow}
 use Rattle.gtfs_rows.proofs.NumberFacts.{trip_service}
 use Rattle.gtfs_rows.proofs.SoundOrder.{in_order}
 use Rattle.gtfs_rows.proofs.TripsAt.{content_trip}
-use Rattle.gtfs_rows.specs.Trips.{frequencies_by_trip, left_at, stop_rows_by_trip}
+use Rattle.gtfs_rows.specs.Trips.{frequencies_by_trip, stop_rows_by_trip}
+use Rattle.gtfs_stop_times.specs.RowTimes.{left_at}
 use Rattle.gtfs_runs.specs.Counts.{tally}
 use Rattle.gtfs_runs.specs.Patterns.{rows_of_number}
 use Rattle.gtfs_rows.specs.Runs.{is_run, runs}
@@ -44,7 +45,7 @@ use Rattle.gtfs_rows.specs.Departures.{runs_on}
 use Rattle.gtfs_board.specs.LaneDays.{serves_on}
 use Rattle.gtfs_board.specs.SheetSteps.{IsPattern, IsShownAlong, column_cmp, column_times, is_column_before, is_column_of, is_run_on, is_same_column, named_column, running_at, sheet_along, sheet_of_columns, sheet_with, sheets_along, time_of_column}
 use Rattle.gtfs_board.specs.Timetable.{Run, Sheet, has_run_on, is_run_before, named_runs, row_at, run_cmp, runs_of, time_passed, time_of_run}
-use Rattle.gtfs_board.specs.declared.sheet.columns.Column.{Column}
+use Rattle.gtfs_board.specs.declared.sheet.columns.RunColumn.{RunColumn}
 use Rattle.gtfs_board.specs.upcoming.Order.{In, AscendsBy, IsStrict}
 use Rattle.gtfs_board.proofs.Candidates.{strict_from_total}
 use Rattle.gtfs_runs.proofs.TripIds.{numbers, text_at}
@@ -63,15 +64,15 @@ columns_total = search (comparing, rules) depth 20
 runs_total : IsTotalOrder run_cmp
 runs_total = search (comparing, rules) depth 20
 
-column_ties : (x y : Column) → column_cmp x y ≡ Equal → is_same_column x y ≡ true
+column_ties : (x y : RunColumn) → column_cmp x y ≡ Equal → is_same_column x y ≡ true
 column_ties x y h =
     let both = tied _ _ h in
     and_from (x.start == y.start) (x.trip.0 == y.trip.0) (eq-eqb x.start y.start (ranked x.start y.start Equal (sym both.0))) (eq-eqb x.trip.0 y.trip.0 (ranked x.trip.0 y.trip.0 Equal (sym both.1)))
 
-same_itself : (x : Column) → is_same_column x x ≡ true
+same_itself : (x : RunColumn) → is_same_column x x ≡ true
 same_itself x = and_from (x.start == x.start) (x.trip.0 == x.trip.0) (eq-eqb x.start x.start refl) (eq-eqb x.trip.0 x.trip.0 refl)
 
-same_is : (x y : Column) → is_same_column x y ≡ true → x ≡ y
+same_is : (x y : RunColumn) → is_same_column x y ≡ true → x ≡ y
 same_is x y h =
     let both = and_parts (x.start == y.start) (x.trip.0 == y.trip.0) h in
     let starts = eqb-true x.start y.start both.0 in
@@ -180,7 +181,7 @@ module _ (p : Parts) (sound : IsSoundParts p) where
 
   -- ---- the steps of the code
 
-  step-same : (n : ℕ) (row : TripRow) (rs : List StopRow) (fs : List Frequency) (s : ServiceDates) (d : ℤ) (c : Column)
+  step-same : (n : ℕ) (row : TripRow) (rs : List StopRow) (fs : List Frequency) (s : ServiceDates) (d : ℤ) (c : RunColumn)
       → slice_get p.trips n ≡ Some row → slice_get (stop_rows_by_trip p) n ≡ Some rs → slice_get (frequencies_by_trip p) n ≡ Some fs
       → option_map (λ x. x.service) (slice_get p.services row.service_id.0) ≡ Some s
       → ((c.trip.0 == n) && is_run_on p d c) ≡ ((c.trip.0 == n) && (is_active s d && is_run (trip_of p row rs fs) c.start))
@@ -194,7 +195,7 @@ module _ (p : Parts) (sound : IsSoundParts p) where
     | inr other ↦ rw other refl
   ]
 
-  pub trip-pushed : (n : ℕ) (row : TripRow) (rs : List StopRow) (fs : List Frequency) (s : ServiceDates) (d : ℤ) (c : Column) (active : Bool) (old new : ℕ)
+  pub trip-pushed : (n : ℕ) (row : TripRow) (rs : List StopRow) (fs : List Frequency) (s : ServiceDates) (d : ℤ) (c : RunColumn) (active : Bool) (old new : ℕ)
       → slice_get p.trips n ≡ Some row → slice_get (stop_rows_by_trip p) n ≡ Some rs → slice_get (frequencies_by_trip p) n ≡ Some fs
       → option_map (λ x. x.service) (slice_get p.services row.service_id.0) ≡ Some s → active ≡ is_active s d → active ≡ true
       → new ≡ old + cond ((c.trip.0 == n) && is_run (trip_of p row rs fs) c.start) 1 0 → new ≡ old + cond ((c.trip.0 == n) && is_run_on p d c) 1 0
@@ -202,7 +203,7 @@ module _ (p : Parts) (sound : IsSoundParts p) where
       more ∙ ap (λ b. old + cond b 1 0) (sym (step-same n row rs fs s d c at_trip at_rows at_periods there
       ∙ ap (λ b. (c.trip.0 == n) && (b && is_run (trip_of p row rs fs) c.start)) (sym judged ∙ busy)))
 
-  pub trip-idle : (n : ℕ) (row : TripRow) (rs : List StopRow) (fs : List Frequency) (s : ServiceDates) (d : ℤ) (c : Column) (active : Bool) (old : ℕ)
+  pub trip-idle : (n : ℕ) (row : TripRow) (rs : List StopRow) (fs : List Frequency) (s : ServiceDates) (d : ℤ) (c : RunColumn) (active : Bool) (old : ℕ)
       → slice_get p.trips n ≡ Some row → slice_get (stop_rows_by_trip p) n ≡ Some rs → slice_get (frequencies_by_trip p) n ≡ Some fs
       → option_map (λ x. x.service) (slice_get p.services row.service_id.0) ≡ Some s → active ≡ is_active s d → active ≡ false
       → old ≡ old + cond ((c.trip.0 == n) && is_run_on p d c) 1 0
@@ -223,7 +224,7 @@ module _ (p : Parts) (sound : IsSoundParts p) where
       left-within p sound n (get_or p.trips n e) rs (get_or (frequencies_by_trip p) n []) (slice_get-get_or p.trips n e within) at_rows (slice_get-get_or (frequencies_by_trip p) n [] periods) k d inside
 
   -- what the stop times of a trip say is what the content says
-  pub column-time : (c : Column) (position : ℕ) (rs : List StopRow) (o : Option ℕ) → slice_get (stop_rows_by_trip p) c.trip.0 ≡ Some rs
+  pub column-time : (c : RunColumn) (position : ℕ) (rs : List StopRow) (o : Option ℕ) → slice_get (stop_rows_by_trip p) c.trip.0 ≡ Some rs
       → ((row : TripRow) (fs : List Frequency) → o ≡ option_and_then (time_passed (trip_of p row rs fs) c.start) (row_at (trip_of p row rs fs) position)) → o ≡ time_of_column (content_of_parts p) position c
   column-time c position rs o at_rows is =
       let n = c.trip.0 in
@@ -250,7 +251,7 @@ tally-less q b (x ∷ xs) = let here = less (q x) b in omega (arith, here, tally
     less false c = omega arith
 
 -- what a column is
-record IsColumn (p : Parts) (d : ℤ) (ns : List TripNo) (c : Column) : Type 0 where
+record IsColumn (p : Parts) (d : ℤ) (ns : List TripNo) (c : RunColumn) : Type 0 where
   pub number : TripNo
   pub member : In number ns
   pub same : c.trip.0 ≡ number.0
@@ -259,7 +260,7 @@ record IsColumn (p : Parts) (d : ℤ) (ns : List TripNo) (c : Column) : Type 0 w
   pub runs : runs_on (content_of_parts p) trip d ≡ true
   pub run : is_run trip c.start ≡ true
 
-pub shown-upto : (p : Parts) (m n : ℕ) (c : Column) → IsShownAlong p m c → n < m → IsShownAlong p (n + 1) c
+pub shown-upto : (p : Parts) (m n : ℕ) (c : RunColumn) → IsShownAlong p m c → n < m → IsShownAlong p (n + 1) c
 shown-upto p m n c is before = record { trip = is.trip; reaches = omega (arith, is.reaches, before); early = is.early }
 
 pub some-run : (t : Trip) (r : ℕ) → In r (runs t) → not (length (runs t) == 0) ≡ true
@@ -288,18 +289,18 @@ module _ (p : Parts) (sound : IsSoundParts p) (d : ℤ) (ns : List TripNo) where
       find-one (λ u. bytes_eq u.trip_id t.trip_id) ts t there (text_itself t.trip_id)
       (λ u member same. let k = known u member in one-trip p sound n k.0 t u at k.1 (text_is u.trip_id t.trip_id same))
 
-module _ (p : Parts) (sound : IsSoundParts p) (d : ℤ) (x : Pattern) (pattern : IsPattern p x) (cs : List Column)
-    (told : (c : Column) → tally (is_same_column c) cs ≡ tally (is_column_of p d c) x.trips) (sorted : IsSorted column_cmp cs) where
+module _ (p : Parts) (sound : IsSoundParts p) (d : ℤ) (x : Pattern) (pattern : IsPattern p x) (cs : List RunColumn)
+    (told : (c : RunColumn) → tally (is_same_column c) cs ≡ tally (is_column_of p d c) x.trips) (sorted : IsSorted column_cmp cs) where
   abbrev ts : List Trip
   ts = running_at (content_of_parts p) d x.trips
 
-  once : (c : Column) → tally (is_same_column c) cs ≤ 1
+  once : (c : RunColumn) → tally (is_same_column c) cs ≤ 1
   once c = omega (arith, told c, tally-less (λ (n : TripNo). c.trip.0 == n.0) (is_run_on p d c) x.trips, pattern.once c.trip.0)
 
   ascends : AscendsBy is_column_before cs
   ascends = sorted-ascends columns_total is_same_column column_ties cs sorted once
 
-  column-is : (c : Column) → In c cs → IsColumn p d x.trips c
+  column-is : (c : RunColumn) → In c cs → IsColumn p d x.trips c
   column-is c there =
       let f = content_of_parts p in
       let here = in-counted (is_same_column c) cs c there (same_itself c) in
@@ -313,7 +314,7 @@ module _ (p : Parts) (sound : IsSoundParts p) (d : ℤ) (x : Pattern) (pattern :
       → In (record { start = r; trip = n }) cs
   is-column n t r member at busy run =
       let f = content_of_parts p in
-      let c : Column = record { start = r; trip = n } in
+      let c : RunColumn = record { start = r; trip = n } in
       let runs : is_run_on p d c ≡ true = ap (λ o. if_there o (λ u. runs_on f u d && is_run u r)) at ∙ and_from (runs_on f t d) (is_run t r) busy run in
       let passes : is_column_of p d c n ≡ true = and_from (n.0 == n.0) (is_run_on p d c) (eq-eqb n.0 n.0 refl) runs in
       let some = in-counted (is_column_of p d c) x.trips n member passes in
@@ -334,10 +335,10 @@ module _ (p : Parts) (sound : IsSoundParts p) (d : ℤ) (x : Pattern) (pattern :
       subst (λ z. In z (map (named_column p) cs)) named (in-map (named_column p) cs (record { start = r.0; trip = n.0 }) column)
 
   -- the trip of a column runs on the day
-  column-runs : (c : Column) → (k : IsColumn p d x.trips c) → In c.start (runs k.trip)
+  column-runs : (c : RunColumn) → (k : IsColumn p d x.trips c) → In c.start (runs k.trip)
   column-runs c k = in-runs k.trip c.start k.run (early-run p sound c.trip.0 k.trip c.start k.at k.run)
 
-  column-trip : (c : Column) → (k : IsColumn p d x.trips c) → In k.trip ts
+  column-trip : (c : RunColumn) → (k : IsColumn p d x.trips c) → In k.trip ts
   column-trip c k =
       in-running p sound d x.trips k.number k.trip k.member (ap (slice_get (content_of_parts p).trips) (sym k.same) ∙ k.at)
       (and_from (runs_on (content_of_parts p) k.trip d) (not (length (runs k.trip) == 0)) k.runs (some-run k.trip c.start (column-runs c k)))
@@ -351,7 +352,7 @@ module _ (p : Parts) (sound : IsSoundParts p) (d : ℤ) (x : Pattern) (pattern :
       in-flat_map named_runs ts k.trip q (column-trip c k)
       (subst (λ z. In z (named_runs k.trip)) named (in-map (λ r. (r, k.trip.trip_id)) (runs k.trip) c.start (column-runs c k)))
 
-  rises : (y z : Column) → In y cs → In z cs → is_column_before y z ≡ true → is_run_before (named_column p y) (named_column p z) ≡ true
+  rises : (y z : RunColumn) → In y cs → In z cs → is_column_before y z ≡ true → is_run_before (named_column p y) (named_column p z) ≡ true
   rises y z in_y in_z before =
       let a = column-is y in_y in
       let b = column-is z in_z in
@@ -370,7 +371,7 @@ module _ (p : Parts) (sound : IsSoundParts p) (d : ℤ) (x : Pattern) (pattern :
   known : (u : Trip) → In u ts → (m : ℕ) × (slice_get (content_of_parts p).trips m ≡ Some u)
   known u there = let r = running-in p sound d x.trips u there in (r.0.0, r.1.1.0)
 
-  time-is : (i : ℕ) (c : Column) → In c cs → time_of_column (content_of_parts p) i c ≡ time_of_run ts i (named_column p c)
+  time-is : (i : ℕ) (c : RunColumn) → In c cs → time_of_column (content_of_parts p) i c ≡ time_of_run ts i (named_column p c)
   time-is i c there =
       let k = column-is c there in
       let at_time = λ (t : Trip). option_and_then (time_passed t c.start) (row_at t i) in
@@ -423,7 +424,7 @@ module _ (p : Parts) (sound : IsSoundParts p) (d : ℤ) (x : Pattern) (pattern :
   pub all-shown : All (IsShownAlong p (length x.stops)) cs
   all-shown = each cs (λ c there. there)
     where
-      fits : (c : Column) → In c cs → IsShownAlong p (length x.stops) c
+      fits : (c : RunColumn) → In c cs → IsShownAlong p (length x.stops) c
       fits c there =
           let k = column-is c there in
           let rows = all-in (λ n. map (λ row. row.stop_id) (rows_of_number p n.0) ≡ x.stops) x.trips pattern.along k.number k.member in
@@ -434,6 +435,6 @@ module _ (p : Parts) (sound : IsSoundParts p) (d : ℤ) (x : Pattern) (pattern :
             early = early-run p sound c.trip.0 k.trip c.start k.at k.run;
           }
 
-      each : (ys : List Column) → ((c : Column) → In c ys → In c cs) → All (IsShownAlong p (length x.stops)) ys
+      each : (ys : List RunColumn) → ((c : RunColumn) → In c ys → In c cs) → All (IsShownAlong p (length x.stops)) ys
       each [] inside = All-nil (IsShownAlong p (length x.stops))
       each (y ∷ ys) inside = All-cons (IsShownAlong p (length x.stops)) y ys (fits y (inside y (inl refl))) (each ys (λ c there. inside c (inr there)))

@@ -17,7 +17,8 @@ use Rattle.gtfs_rows.specs.declared.frequency.Frequency.{Frequency}
 use Rattle.gtfs_rows.specs.declared.parts.Parts.{Parts}
 use Rattle.gtfs_stop_times.specs.declared.stop_row.StopRow.{StopRow}
 use Rattle.gtfs_rows.specs.declared.trip.Trip.{Trip as TripRow}
-use Rattle.gtfs_rows.specs.Trips.{ArePeriods, frequencies_by_trip, left_at, stop_rows_by_trip}
+use Rattle.gtfs_rows.specs.Trips.{ArePeriods, frequencies_by_trip, stop_rows_by_trip}
+use Rattle.gtfs_stop_times.specs.RowTimes.{left_at}
 use Rattle.gtfs_runs.specs.Counts.{tally}
 use Rattle.gtfs_rows.specs.Runs.{is_run, passes_at, runs}
 use Rattle.gtfs_runs.proofs.Bounds.{IsPeriod, periods_within, rows_within}
@@ -27,7 +28,7 @@ use Rattle.gtfs_runs.proofs.Tallies.{tally-permutation as tally-permuted, tally-
 use Rattle.gtfs_runs.proofs.TripTimes.{at_most}
 use Rattle.gtfs_board.specs.SheetSteps.{is_same_column}
 use Rattle.gtfs_board.specs.Timetable.{row_at, time_passed}
-use Rattle.gtfs_board.specs.declared.sheet.columns.Column.{Column}
+use Rattle.gtfs_board.specs.declared.sheet.columns.RunColumn.{RunColumn}
 use Rattle.gtfs_board.specs.upcoming.Order.{In}
 use Rattle.gtfs_board.proofs.LaneDays.{in-range}
 use Rattle.gtfs_board.proofs.Rests.{filter-in, in-filter}
@@ -72,7 +73,7 @@ pub counted-sorted : {X Y : Type 0} (q : Y → Bool) (r : X → Bool) (xs : List
     → IsPermutation found sorted → tally q sorted ≡ tally r xs
 counted-sorted q r xs n found sorted past all same = tally-permuted q found sorted same ∙ all ∙ ap (tally r) (take_all n xs past)
 
-pub own-pushed : (p : Parts) (t : TripRow) (rs : List StopRow) (fs : List Frequency) (c x : Column) (first : StopRow) (old new : List Column) → 0 < length rs → (length fs == 0) ≡ true
+pub own-pushed : (p : Parts) (t : TripRow) (rs : List StopRow) (fs : List Frequency) (c x : RunColumn) (first : StopRow) (old new : List RunColumn) → 0 < length rs → (length fs == 0) ≡ true
     → first ≡ get_or rs 0 first → x.start ≡ unwrap_or (left_at first) 0 → new ≡ old ++ x ∷ []
     → tally (is_same_column c) new ≡ tally (is_same_column c) old + cond ((c.trip.0 == x.trip.0) && is_run (trip_of p t rs fs) c.start) 1 0
 own-pushed p t [] fs c x first old new filled none item start pushed = absurd (omega arith)

@@ -11,7 +11,7 @@ use Rattle.gtfs_runs.specs.Counts.{tally}
 use Rattle.gtfs_rows.specs.Runs.{starts_run}
 use Rattle.gtfs_runs.proofs.Tallies.{tally-push}
 use Rattle.gtfs_board.specs.SheetSteps.{is_same_column}
-use Rattle.gtfs_board.specs.declared.sheet.columns.Column.{Column}
+use Rattle.gtfs_board.specs.declared.sheet.columns.RunColumn.{RunColumn}
 
 -- a run starts at this second or a whole number of headways after it, before the end
 abbrev pub starts_from : ℕ → ℕ → ℕ → ℕ → Bool
@@ -89,11 +89,11 @@ next_from start next end headway r lasts moves low is = elim (cases_Bool (r == s
 
 -- ---- the steps of the code
 
-pub period-begun : (c : Column) (t start end : ℕ) (f : Frequency) (n : ℕ) → start ≡ f.start_time → end ≡ f.end_time
+pub period-begun : (c : RunColumn) (t start end : ℕ) (f : Frequency) (n : ℕ) → start ≡ f.start_time → end ≡ f.end_time
     → n + cond ((c.trip.0 == t) && starts_from start end f.headway_secs c.start) 1 0 ≡ n + cond ((c.trip.0 == t) && starts_run (frequency_of f) c.start) 1 0
 period-begun c t start end f n begins ends = λ i. n + cond ((c.trip.0 == t) && starts_from (begins i) (ends i) f.headway_secs c.start) 1 0
 
-pub period-step : (c x : Column) (next end headway : ℕ) (before after : List Column) (total : ℕ) → after ≡ before ++ x ∷ [] → x.start < end → 0 < headway → end < 2 ^ 32 - 1
+pub period-step : (c x : RunColumn) (next end headway : ℕ) (before after : List RunColumn) (total : ℕ) → after ≡ before ++ x ∷ [] → x.start < end → 0 < headway → end < 2 ^ 32 - 1
     → next ≡ min (x.start + headway) (2 ^ 32 - 1)
     → tally (is_same_column c) before + cond ((c.trip.0 == x.trip.0) && starts_from x.start end headway c.start) 1 0 ≡ total
     → tally (is_same_column c) after + cond ((c.trip.0 == x.trip.0) && starts_from next end headway c.start) 1 0 ≡ total
@@ -109,7 +109,7 @@ period-step c x next end headway before after total pushed lasts moves low is so
     guarded false true a b e = omega arith
     guarded false false a b e = omega arith
 
-pub period-ended : (c : Column) (t start end headway : ℕ) (found : List Column) (total : ℕ) → end ≤ start
+pub period-ended : (c : RunColumn) (t start end headway : ℕ) (found : List RunColumn) (total : ℕ) → end ≤ start
     → tally (is_same_column c) found + cond ((c.trip.0 == t) && starts_from start end headway c.start) 1 0 ≡ total → tally (is_same_column c) found ≡ total
 period-ended c t start end headway found total past so_far =
     let none = past_end start end headway c.start past in

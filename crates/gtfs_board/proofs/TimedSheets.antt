@@ -16,7 +16,8 @@ use Rattle.gtfs_rows.specs.NamedRows.{stop_row_named}
 use Rattle.gtfs_rows.specs.Rows.{StopRow, Trip}
 use Rattle.gtfs_rows.specs.Runs.{first_leaves, is_run, is_timed, starts_run, trip_start}
 use Rattle.gtfs_rows.specs.Sound.{leaves}
-use Rattle.gtfs_rows.specs.Trips.{left_at, stop_rows_by_trip}
+use Rattle.gtfs_rows.specs.Trips.{stop_rows_by_trip}
+use Rattle.gtfs_stop_times.specs.RowTimes.{left_at}
 use Rattle.gtfs_rows.specs.Views.{IsSoundParts, content_of_parts, route_ids, text_of_number, trip_of}
 use Rattle.gtfs_rows.specs.declared.frequency.Frequency.{Frequency}
 use Rattle.gtfs_rows.specs.declared.numbers.TripNo.{TripNo}
@@ -36,7 +37,7 @@ use Rattle.gtfs_times.proofs.TimedContent.{content-timed}
 use Rattle.gtfs_board.specs.SheetSteps.{IsPattern, column_times, goes, is_column_of, sheets_along, time_of_column, times_of_column}
 use Rattle.gtfs_board.specs.Timetable.{Sheet, row_at, sheets}
 use Rattle.gtfs_board.specs.Timetable as table
-use Rattle.gtfs_board.specs.declared.sheet.columns.Column.{Column}
+use Rattle.gtfs_board.specs.declared.sheet.columns.RunColumn.{RunColumn}
 use Rattle.gtfs_board.proofs.LaneDays.{range-in}
 use Rattle.gtfs_board.proofs.SheetColumns.{column-time}
 use Rattle.gtfs_board.proofs.SheetLists.{map-agree}
@@ -76,10 +77,10 @@ there-mapped g [] n q = refl
 there-mapped g (x ∷ xs) zero q = refl
 there-mapped g (x ∷ xs) (suc n) q = there-mapped g xs n q
 
-abbrev is_run_in : Content → ℤ → Column → Bool
+abbrev is_run_in : Content → ℤ → RunColumn → Bool
 is_run_in f d c = if_there (slice_get f.trips c.trip.0) (λ t. runs_on f t d && is_run t c.start)
 
-run-in-timed : (choice : Times) (f : Content) (d : ℤ) (c : Column) → is_run_in (timed choice f) d c ≡ is_run_in f d c
+run-in-timed : (choice : Times) (f : Content) (d : ℤ) (c : RunColumn) → is_run_in (timed choice f) d c ≡ is_run_in f d c
 run-in-timed choice f d c =
     there-mapped (timed_trip choice) f.trips c.trip.0 (λ t. runs_on (timed choice f) t d && is_run t c.start)
     ∙ (λ i. if_there (slice_get f.trips c.trip.0) (λ t. runs_on f t d && run-same choice t c.start i))
@@ -120,7 +121,7 @@ pub line-within : {L : Type 0} (g : L → List (Option ℕ)) (lines : List L) (n
     → place < length (g line)
 line-within g lines n place line each within is = subst (λ l. place < length (g l)) (sym is) (each n line within)
 
-pub turned-times : {L : Type 0} (g : L → List (Option ℕ)) (lines : List L) (f : Content) (n : ℕ) (cs : List Column) → map g lines ≡ map (times_of_column f n) cs
+pub turned-times : {L : Type 0} (g : L → List (Option ℕ)) (lines : List L) (f : Content) (n : ℕ) (cs : List RunColumn) → map g lines ≡ map (times_of_column f n) cs
     → map (λ i. map (λ line. get_or (g line) i None) lines) (range_with_len 0 n) ≡ column_times f n cs
 turned-times g lines f n cs same =
     map-agree (λ i. map (λ line. get_or (g line) i None) lines) (λ i. map (time_of_column f i) cs) (range_with_len 0 n)
@@ -130,7 +131,7 @@ turned-times g lines f n cs same =
     ∙ map-agree (λ c. get_or (times_of_column f n c) i None) (time_of_column f i) cs
     (λ c member. get_or-map-range_with_len (λ k. time_of_column f k c) 0 n i i None inside (omega arith)))
 
-pub times-wide : {L : Type 0} (g : L → List (Option ℕ)) (lines : List L) (f : Content) (n : ℕ) (cs : List Column) → map g lines ≡ map (times_of_column f n) cs
+pub times-wide : {L : Type 0} (g : L → List (Option ℕ)) (lines : List L) (f : Content) (n : ℕ) (cs : List RunColumn) → map g lines ≡ map (times_of_column f n) cs
     → All (λ line. length (g line) ≡ n) lines
 times-wide g lines f n cs same =
     lines-wide g (times_of_column f n) lines cs n same (λ c. length-map-range_with_len (λ k. time_of_column f k c) 0 n) (record { start = 0; trip = record { 0 = 0 } })
@@ -139,7 +140,7 @@ times-wide g lines f n cs same =
 
 module _ (p : Parts) (sound : IsSoundParts p) where
   -- what the stop times of a trip say at each of so many positions is what the content says
-  pub column-times : (c : Column) (n : ℕ) (rs : List StopTime) (ts : List (Option ℕ)) → slice_get (stop_rows_by_trip p) c.trip.0 ≡ Some rs
+  pub column-times : (c : RunColumn) (n : ℕ) (rs : List StopTime) (ts : List (Option ℕ)) → slice_get (stop_rows_by_trip p) c.trip.0 ≡ Some rs
       → ((row : TripRow) (fs : List Frequency) → ts ≡ map (λ i. option_and_then (table.time_passed (trip_of p row rs fs) c.start) (row_at (trip_of p row rs fs) i)) (range_with_len 0 n))
       → ts ≡ times_of_column (content_of_parts p) n c
   column-times c n rs ts at_rows is =
@@ -153,10 +154,10 @@ module _ (choice : Times) (p : Parts) (sound : IsSoundParts p) where
   abbrev q : Parts
   q = timed_parts choice p
 
-  column-same : (d : ℤ) (c : Column) (n : TripNo) → is_column_of q d c n ≡ is_column_of p d c n
+  column-same : (d : ℤ) (c : RunColumn) (n : TripNo) → is_column_of q d c n ≡ is_column_of p d c n
   column-same d c n = ap (λ b. (c.trip.0 == n.0) && b) (ap (λ f. is_run_in f d c) (content-timed choice p sound) ∙ run-in-timed choice (content_of_parts p) d c)
 
-  pub columns-same : (d : ℤ) (c : Column) (ns : List TripNo) → tally (is_column_of p d c) ns ≡ tally (is_column_of q d c) ns
+  pub columns-same : (d : ℤ) (c : RunColumn) (ns : List TripNo) → tally (is_column_of p d c) ns ≡ tally (is_column_of q d c) ns
   columns-same d c ns = λ i. tally (λ n. sym (column-same d c n) i) ns
 
   pub pattern-timed : (x : Pattern) → IsPattern p x → IsPattern q x

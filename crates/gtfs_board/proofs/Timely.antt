@@ -8,7 +8,8 @@ use Rattle.std.proofs.lemmas.Option.{get_or_from_slice_get, same_Some as some_is
 use Rattle.gtfs_days.specs.Service.{is_service_day}
 use Rattle.gtfs_days.specs.Zone.{IsInstant, noon_offset, zone_origin}
 use Rattle.gtfs_days.specs.declared.zone.Zone.{Zone}
-use Rattle.gtfs_rows.specs.Trips.{frequencies_by_trip, left_at, stop_rows_by_trip}
+use Rattle.gtfs_rows.specs.Trips.{frequencies_by_trip, stop_rows_by_trip}
+use Rattle.gtfs_stop_times.specs.RowTimes.{left_at}
 use Rattle.gtfs_field.specs.Calendar.{date_of_day}
 use Rattle.gtfs_field.proofs.ListFacts.{fold-rises as fold_above}
 use Rattle.gtfs_rows.specs.Rows.{StopRow, Trip}

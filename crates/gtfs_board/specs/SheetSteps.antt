@@ -6,7 +6,7 @@ use Rattle.std.specs.Ordering.{is_lt, nat_cmp, on, then_cmp}
 use Rattle.gtfs_schema.specs.Values.{if_there}
 use Rattle.gtfs_rows.specs.Content.{Content}
 use Rattle.gtfs_rows.specs.Rows.{Trip}
-use Rattle.gtfs_rows.specs.Trips.{left_at}
+use Rattle.gtfs_stop_times.specs.RowTimes.{left_at}
 use Rattle.gtfs_rows.specs.Views.{content_of_parts, stop_ids, text_of_number, trip_ids}
 use Rattle.gtfs_rows.specs.declared.numbers.TripNo.{TripNo}
 use Rattle.gtfs_rows.specs.declared.parts.Parts.{Parts}
@@ -17,26 +17,26 @@ use Rattle.gtfs_rows.specs.Runs.{is_run}
 use Rattle.gtfs_runs.specs.declared.pattern.Pattern.{Pattern}
 use Rattle.gtfs_rows.specs.Departures.{runs_on}
 use Rattle.gtfs_board.specs.Timetable.{Run, Sheet, direction_rank, has_run_on, row_at, runs_of, time_passed, time_of_run}
-use Rattle.gtfs_board.specs.declared.sheet.columns.Column.{Column}
+use Rattle.gtfs_board.specs.declared.sheet.columns.RunColumn.{RunColumn}
 
 -- ---- columns
 
 -- by the start of the run, then by the trip
-abbrev pub column_cmp : Column → Column → Ordering
+abbrev pub column_cmp : RunColumn → RunColumn → Ordering
 column_cmp = then_cmp (on (λ c. c.start) nat_cmp) (on (λ c. c.trip.0) nat_cmp)
 
-abbrev pub is_column_before : Column → Column → Bool
+abbrev pub is_column_before : RunColumn → RunColumn → Bool
 is_column_before x y = is_lt (column_cmp x y)
 
-abbrev pub is_same_column : Column → Column → Bool
+abbrev pub is_same_column : RunColumn → RunColumn → Bool
 is_same_column c x = (c.start == x.start) && (c.trip.0 == x.trip.0)
 
 -- the column is a run of its trip on the day
-abbrev pub is_run_on : Parts → ℤ → Column → Bool
+abbrev pub is_run_on : Parts → ℤ → RunColumn → Bool
 is_run_on p d c = if_there (slice_get (content_of_parts p).trips c.trip.0) (λ t. runs_on (content_of_parts p) t d && is_run t c.start)
 
 -- and its trip is the one of this number
-abbrev pub is_column_of : Parts → ℤ → Column → TripNo → Bool
+abbrev pub is_column_of : Parts → ℤ → RunColumn → TripNo → Bool
 is_column_of p d c n = (c.trip.0 == n.0) && is_run_on p d c
 
 -- a number is that of a trip that has a stop row
@@ -44,17 +44,17 @@ abbrev pub HasRow : Parts → TripNo → Type 0
 HasRow p n = (n.0 < length p.trips) × (0 < length (rows_of_number p n.0))
 
 -- the times of a column can be shown at this many stop rows of its trip
-pub record IsShownAlong (p : Parts) (stop_count : ℕ) (c : Column) : Type 0 where
+pub record IsShownAlong (p : Parts) (stop_count : ℕ) (c : RunColumn) : Type 0 where
   pub trip : c.trip.0 < length p.trips
   pub reaches : stop_count ≤ length (rows_of_number p c.trip.0)
   pub early : c.start < 3_600_000
 
 -- when the run passes the row at a position, none where the row is untimed
-abbrev pub time_of_column : Content → ℕ → Column → Option ℕ
+abbrev pub time_of_column : Content → ℕ → RunColumn → Option ℕ
 time_of_column f i c = option_and_then (λ t. option_and_then (time_passed t c.start) (row_at t i)) (slice_get f.trips c.trip.0)
 
 -- when it passes each of this many rows
-abbrev pub times_of_column : Content → ℕ → Column → List (Option ℕ)
+abbrev pub times_of_column : Content → ℕ → RunColumn → List (Option ℕ)
 times_of_column f stop_count c = map (λ i. time_of_column f i c) (range_with_len 0 stop_count)
 
 -- what the times of a trip's stop times keep: none is left after 999:59:59, and none with a time before the first
@@ -63,10 +63,10 @@ pub record KeepTimes (rows : List StopTime) : Type 0 where
   pub later : (k : ℕ) (d : StopTime) → k < length rows → is_some (left_at (slice_index_or rows k d)) ≡ true
       → unwrap_or (left_at (slice_index_or rows 0 d)) 0 ≤ unwrap_or (left_at (slice_index_or rows k d)) 0
 
-abbrev pub named_column : Parts → Column → Run
+abbrev pub named_column : Parts → RunColumn → Run
 named_column p c = (c.start, text_of_number (trip_ids p) c.trip.0)
 
-abbrev pub column_times : Content → ℕ → List Column → List (List (Option ℕ))
+abbrev pub column_times : Content → ℕ → List RunColumn → List (List (Option ℕ))
 column_times f stop_count cs = map (λ i. map (time_of_column f i) cs) (range_with_len 0 stop_count)
 
 -- ---- patterns
@@ -101,7 +101,7 @@ sheet_with p route d x runs times = record {
   times = times;
 }
 
-abbrev pub sheet_of_columns : Parts → List ℕ → ℤ → Pattern → List Column → Sheet
+abbrev pub sheet_of_columns : Parts → List ℕ → ℤ → Pattern → List RunColumn → Sheet
 sheet_of_columns p route d x cs =
     sheet_with p route d x (map (named_column p) cs) (column_times (content_of_parts p) (length x.stops) cs)
 

@@ -2,7 +2,8 @@
 ghost use Rattle.std.specs.Prelude.{◌≡◌, ◌<◌, ◌==◌, ◌&&◌, not, All, Some, [], IfSome, is_some, length, option_map, unwrap_or};
 ghost use Rattle.std.specs.List.{list_any};
 ghost use Rattle.std.specs.Option.{option_or};
-ghost use Rattle.gtfs_rows.specs.Trips.{ArePeriods, left_at};
+ghost use Rattle.gtfs_rows.specs.Trips.{ArePeriods};
+ghost use Rattle.gtfs_stop_times.specs.RowTimes.{left_at};
 ghost use Rattle.gtfs_rows.specs.Views.{frequency_of, stop_ids, text_of_number, trip_ids};
 ghost use Rattle.gtfs_rows.specs.Runs.{starts_run};
 ghost use Rattle.gtfs_board.specs.Lent.{listed, plain_key};
@@ -32,7 +33,7 @@ pub(crate) fn departure_of<'a>(feed: &'a Feed, candidate: &Candidate) -> Departu
         headsign: headsign_of(feed, trip, row),
         mark: Mark::new(
             has_inexact(feed.trip_frequencies(number), candidate.run),
-            is_untimed(row),
+            !row.is_timed(),
         ),
     }
 }
@@ -100,13 +101,6 @@ fn text_or_empty(text: &Option<Text>) -> &str
         Some(text) => text.as_str(),
         None => "",
     }
-}
-
-// Whether a stop time has no time of its own.
-fn is_untimed(row: &StopRow) -> bool
-    ensures { result ≡ not (is_some (left_at row.now)) }
-{
-    row.departure_time.get().is_none() && row.arrival_time.get().is_none()
 }
 
 // Whether one of the periods of a trip starts this run and its times are not exact. None begins

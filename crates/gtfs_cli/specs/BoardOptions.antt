@@ -10,8 +10,8 @@ use Rattle.gtfs_board.specs.KeyTexts.{key_of}
 use Rattle.gtfs_times.specs.declared.times.Times.{Times}
 use Rattle.gtfs_cli.specs.SharedOptions.{first_of_bad, service_day, times_of}
 use Rattle.gtfs_commands.specs.Words.{BoardTexts}
-use Rattle.gtfs_cli.specs.declared.commands.options.moments.Moment.{Moment}
-use Rattle.gtfs_cli.specs.declared.commands.options.moments.Moment.TheVariants.{Instant, ServiceDay}
+use Rattle.gtfs_cli.specs.declared.commands.options.moments.GivenMoment.{GivenMoment}
+use Rattle.gtfs_cli.specs.declared.commands.options.moments.GivenMoment.TheVariants.{Instant, ServiceDay}
 
 -- ---- the values of `--from` and `--until`
 
@@ -20,21 +20,21 @@ abbrev pub after_at : List ℕ → Option (List ℕ)
 after_at [] = None
 after_at (b ∷ rest) = if b == 64 then Some rest else None
 
-abbrev pub moment_from : List ℕ → Option (List ℕ) → Option Moment
+abbrev pub moment_from : List ℕ → Option (List ℕ) → Option GivenMoment
 moment_from text (Some instant) = option_map Instant (result_ok (instant_of instant))
 moment_from text None = option_map ServiceDay (service_day (date_of text))
 
 -- when a text says: `@` and an instant, or a service day YYYYMMDD
-abbrev pub moment_of : List ℕ → Option Moment
+abbrev pub moment_of : List ℕ → Option GivenMoment
 moment_of text = moment_from text (after_at text)
 
 -- the instant that is meant where service days begin at these origins
-abbrev pub instant_at : Origins → Moment → ℤ
+abbrev pub instant_at : Origins → GivenMoment → ℤ
 instant_at origin (Instant x) = x
 instant_at origin (ServiceDay d) = origin d
 
 -- an instant of at most twelve digits, or a service day
-abbrev pub IsSound : Moment → Type 0
+abbrev pub IsSound : GivenMoment → Type 0
 IsSound (Instant x) = unsigned_abs x < 10 ^ 12
 IsSound (ServiceDay d) = is_service_day d ≡ true
 
@@ -66,8 +66,8 @@ first_bad_board asked = first_of_bad (judged_board asked)
 
 -- what the options ask for
 pub record BoardRequest : Type 0 where
-  pub from : Moment
-  pub until : Moment
+  pub from : GivenMoment
+  pub until : GivenMoment
   pub limit : ℕ
   pub after : Option Key
   pub times : Times

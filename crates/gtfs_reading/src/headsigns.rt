@@ -9,7 +9,7 @@ ghost use Rattle.gtfs_reading.specs.HeadsignIndex.{with_headsign};
 
 use crate::plain::plain;
 use gtfs_field::{List, OutOfMemory, Text};
-use gtfs_rows::{HeadsignNo, OptionalHeadsign};
+use gtfs_rows::OptionalHeadsign;
 use gtfs_schema::has_control;
 use indexmap::IndexSet;
 use std::alloc::Global;
@@ -68,7 +68,7 @@ impl Headsigns {
             return Ok(OptionalHeadsign::new(None));
         }
         let index = self.index(text)?;
-        headsign_at(index)
+        OptionalHeadsign::at_index(index)
     }
 
     // The texts in their order.
@@ -134,15 +134,5 @@ impl Headsigns {
             Some(found) => found.as_str() == text,
             None => false,
         }
-    }
-}
-
-// The number of an index. No number is left for more than 4,294,967,295 headsigns.
-fn headsign_at(index: usize) -> Result<OptionalHeadsign, OutOfMemory>
-    ensures { IfOk result (λ n. n ≡ Some index) }
-{
-    match u32::try_from(index) {
-        Ok(number) if number < u32::MAX => Ok(OptionalHeadsign::new(Some(HeadsignNo(number)))),
-        _ => Err(OutOfMemory),
     }
 }

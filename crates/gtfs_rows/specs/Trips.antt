@@ -1,9 +1,9 @@
 -- The rows of a feed by trip, and what they are in sound parts.
-use Rattle.std.specs.Prelude.{◌≡◌, ◌<◌, ◌≤◌, ◌-◌, ℕ, List, All, AllPairs, Option, IfSome, true, is_some, length, slice_index_or}
-use Rattle.std.specs.Option.{option_or}
+use Rattle.std.specs.Prelude.{◌≡◌, ◌<◌, ◌≤◌, ◌-◌, ℕ, List, All, AllPairs, IfSome, true, is_some, length, slice_index_or}
 use Rattle.gtfs_table.specs.Parts.{parts}
 use Rattle.gtfs_rows.specs.declared.frequency.Frequency.{Frequency}
 use Rattle.gtfs_rows.specs.declared.parts.Parts.{Parts}
+use Rattle.gtfs_stop_times.specs.RowTimes.{left_at, reached_at}
 use Rattle.gtfs_stop_times.specs.declared.stop_row.StopRow.{StopRow}
 
 -- the stop times of each trip, at its number
@@ -13,13 +13,6 @@ stop_rows_by_trip p = parts p.stop_times.starts p.stop_times.rows
 -- the frequencies of each trip, at its number
 abbrev pub frequencies_by_trip : Parts → List (List Frequency)
 frequencies_by_trip p = parts p.frequency_starts p.frequencies
-
--- when a stop time is reached and when it is left: of two times of which one is missing, both are the other
-abbrev pub reached_at : StopRow → Option ℕ
-reached_at r = option_or r.arrival_time r.departure_time
-
-abbrev pub left_at : StopRow → Option ℕ
-left_at r = option_or r.departure_time r.arrival_time
 
 -- the stop times of a trip
 pub record AreStopTimes (p : Parts) (rs : List StopRow) : Type 0 where

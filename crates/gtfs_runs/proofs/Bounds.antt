@@ -18,7 +18,8 @@ use Rattle.gtfs_stop_times.specs.declared.stop_row.StopRow.{StopRow}
 use Rattle.gtfs_rows.specs.declared.trip.Trip.{Trip}
 use Rattle.gtfs_rows.specs.Views.{IsSoundParts, content_of_parts, frequency_of, stop_row_of, trip_of}
 use Rattle.gtfs_rows.proofs.RowTexts.{all_at}
-use Rattle.gtfs_rows.specs.Trips.{frequencies_by_trip, left_at, stop_rows_by_trip}
+use Rattle.gtfs_rows.specs.Trips.{frequencies_by_trip, stop_rows_by_trip}
+use Rattle.gtfs_stop_times.specs.RowTimes.{left_at}
 use Rattle.gtfs_rows.proofs.TripsAt.{content_trip}
 
 -- what holds of all that rows hold, with the rows' ids, holds of what one of them holds

@@ -12,13 +12,13 @@ use Rattle.gtfs_rows.specs.declared.parts.Parts.{Parts}
 use Rattle.gtfs_runs.specs.Kinds.{IsListLane, course_at, is_of_list}
 use Rattle.gtfs_runs.specs.StopLanes.{LaneValue, events_of_service}
 use Rattle.gtfs_runs.specs.declared.event.Event.{Event}
-use Rattle.gtfs_runs.specs.declared.stop_lanes.listed.Listed.{Listed}
+use Rattle.gtfs_runs.specs.declared.stop_lanes.listed.ListedEvent.{ListedEvent}
 use Rattle.gtfs_runs.specs.steps.Courses.{CourseNo, IsListed, Stopping, course_of, event_of, how_many, is_same_course, stopping_cmp, stopping_events, stopping_of}
 use Rattle.gtfs_runs.specs.steps.Groups.{trip_group}
 use Rattle.gtfs_runs.specs.steps.Numbers.{AreNumbered, IsNumbered}
 use Rattle.gtfs_runs.proofs.CourseOrder.{chunk_differs, course_is, one_course, pairs-right, told_more}
 
-split : (p : Parts) (n : ℕ) (xs : List Listed) → map (stopping_of p) xs ≡ map (stopping_of p) (take n xs) ++ map (stopping_of p) (drop n xs)
+split : (p : Parts) (n : ℕ) (xs : List ListedEvent) → map (stopping_of p) xs ≡ map (stopping_of p) (take n xs) ++ map (stopping_of p) (drop n xs)
 split p n xs = ap (map (stopping_of p)) (sym (take-append-drop n xs)) ∙ map-append (stopping_of p) (take n xs) (drop n xs)
 
 pub pairs-drop : {X : Type 0} (R : X → X → Type 0) (n : ℕ) (xs : List X) → AllPairs R xs → AllPairs R (drop n xs)
@@ -31,11 +31,11 @@ all_alike : {Y : Type 0} (f : Event → Y) (es : List Event) (y : Y) → All (λ
 all_alike f es y all i j d before within = all i d (omega (arith, before, within)) ∙ sym (all j d within)
 
 -- an element that stands nowhere
-abbrev pub no_event : Listed
+abbrev pub no_event : ListedEvent
 no_event = record { group = 0; row = 0; at = 0; trip = 0; run = 0; seq = 0; service = 0; rank = 0 }
 
-module _ (p : Parts) (xs : List Listed) (n : ℕ) (first : Listed) (some : 0 < n) (upto : n ≤ length xs) (up : Ascends stopping_cmp (map (stopping_of p) xs))
-    (same : (k : ℕ) (d : Listed) → k < n → ◌≡◌ {A = CourseNo} (stopping_of p (get_or xs k d)).course (stopping_of p (get_or xs 0 d)).course) (head : first ≡ get_or xs 0 first) where
+module _ (p : Parts) (xs : List ListedEvent) (n : ℕ) (first : ListedEvent) (some : 0 < n) (upto : n ≤ length xs) (up : Ascends stopping_cmp (map (stopping_of p) xs))
+    (same : (k : ℕ) (d : ListedEvent) → k < n → ◌≡◌ {A = CourseNo} (stopping_of p (get_or xs k d)).course (stopping_of p (get_or xs 0 d)).course) (head : first ≡ get_or xs 0 first) where
   abbrev c : CourseNo
   c = (stopping_of p first).course
 
@@ -69,7 +69,7 @@ module _ (p : Parts) (xs : List Listed) (n : ℕ) (first : Listed) (some : 0 < n
             (All-map (λ e. course_at content e ≡ Some (course_of q c)) event_of (take n xs) (λ k d h. (found k d h).course ∙ ap (λ z. Some (course_of q z)) (courses k d h))));
       }
 
-  module _ (ends : (d : Listed) → n < length xs → is_same_course (stopping_of p (get_or xs 0 d)).course (stopping_of p (get_or xs n d)).course ≡ false) where
+  module _ (ends : (d : ListedEvent) → n < length xs → is_same_course (stopping_of p (get_or xs 0 d)).course (stopping_of p (get_or xs n d)).course ≡ false) where
     differ : All (λ z. is_same_course (stopping_of p first).course z.course ≡ false) (map (stopping_of p) (drop n xs))
     differ =
         let filled : 0 < length fs = omega (arith, size, some) in
@@ -104,15 +104,15 @@ upto_more xs at n within upto =
     omega (arith, size, within, upto)
 
 -- two events of a list that are compared by their numbers
-numbered_pair : (p : Parts) (xs : List Listed) (n : ℕ) (a b : Listed) → AreNumbered p xs → n < length xs → a ≡ get_or xs 0 a → b ≡ get_or xs n b → IsNumbered p a b
+numbered_pair : (p : Parts) (xs : List ListedEvent) (n : ℕ) (a b : ListedEvent) → AreNumbered p xs → n < length xs → a ≡ get_or xs 0 a → b ≡ get_or xs n b → IsNumbered p a b
 numbered_pair p xs n a b numbers inside first last =
     subst (λ z. IsNumbered p z b) (sym first) (subst (λ z. IsNumbered p (get_or xs 0 a) z) (sym last) (numbers 0 a (omega (arith, inside)) n b inside))
 
 -- one event more of the course of the first
-pub course_more : (p : Parts) (xs : List Listed) (n : ℕ) (a b : Listed) → AreNumbered p xs → n < length xs → a ≡ get_or xs 0 a → b ≡ get_or xs n b
+pub course_more : (p : Parts) (xs : List ListedEvent) (n : ℕ) (a b : ListedEvent) → AreNumbered p xs → n < length xs → a ≡ get_or xs 0 a → b ≡ get_or xs n b
     → (IsNumbered p a b → is_same_course (stopping_of p a).course (stopping_of p b).course ≡ true)
-    → ((k : ℕ) (d : Listed) → k < n → ◌≡◌ {A = CourseNo} (stopping_of p (get_or xs k d)).course (stopping_of p (get_or xs 0 d)).course)
-    → (k : ℕ) (d : Listed) → k < n + 1 → ◌≡◌ {A = CourseNo} (stopping_of p (get_or xs k d)).course (stopping_of p (get_or xs 0 d)).course
+    → ((k : ℕ) (d : ListedEvent) → k < n → ◌≡◌ {A = CourseNo} (stopping_of p (get_or xs k d)).course (stopping_of p (get_or xs 0 d)).course)
+    → (k : ℕ) (d : ListedEvent) → k < n + 1 → ◌≡◌ {A = CourseNo} (stopping_of p (get_or xs k d)).course (stopping_of p (get_or xs 0 d)).course
 course_more p xs n a b numbers inside first last same so_far k d below = elim (cases_Bool (nat_lt k n)) [
   | inl is ↦ so_far k d (ltb-true k n is)
   | inr isnt ↦

@@ -28,7 +28,7 @@ use Rattle.gtfs_runs.specs.Counts.{tally}
 use Rattle.gtfs_runs.specs.Lanes.{has_periods}
 use Rattle.gtfs_runs.specs.declared.stop_index.DepartureRow.{DepartureRow}
 use Rattle.gtfs_runs.specs.declared.stop_index.indexed_trips.IndexedTrip.{IndexedTrip}
-use Rattle.gtfs_runs.specs.declared.stop_lanes.listed.Listed.{Listed}
+use Rattle.gtfs_runs.specs.declared.stop_lanes.listed.ListedEvent.{ListedEvent}
 use Rattle.gtfs_runs.specs.steps.Courses.{IsListed, stopping_of}
 use Rattle.gtfs_runs.specs.steps.Groups.{AreOfTrips, Group, GroupedTripValue, below, group_cmp, group_of, lower_trips, trip_group}
 use Rattle.gtfs_stop_times.specs.StopLists.{stops_in}
@@ -211,7 +211,7 @@ one_indexed_more p sorted trips new n x size pushed is so_far k d e upto = elim 
 
 -- ---- the events of an index
 
-pub trips_listed : (p q : Parts) (xs : List Listed) → All (IsListed q) (map (stopping_of p) xs) → All (λ x. x.trip < length q.trips) xs
+pub trips_listed : (p q : Parts) (xs : List ListedEvent) → All (IsListed q) (map (stopping_of p) xs) → All (λ x. x.trip < length q.trips) xs
 trips_listed p q xs own k d within = known (get_or xs k d).trip (all_mapped (IsListed q) (stopping_of p) xs own k d within).listed
   where
     known : (t : ℕ) → if_there (slice_get (content_of_parts q).trips t) (λ u. not (has_periods u)) ≡ true → t < length q.trips
@@ -235,12 +235,12 @@ numbers_compare p t u first second =
         one_at (λ m. is_eq (group_cmp (trip_group p m) (trip_group p n))) (range_with_len 0 (length p.trips)) n 0 (omega (arith, size, within))
         (ap (λ m. is_eq (group_cmp (trip_group p m) (trip_group p n))) here ∙ ap is_eq (tied_itself groups_total (trip_group p n)))
 
-pub numbers_of : (p : Parts) (xs : List Listed) → All (λ x. x.trip < length p.trips) xs → All (λ x. group_number p x.trip ≡ x.group) xs → AreNumbered p xs
+pub numbers_of : (p : Parts) (xs : List ListedEvent) → All (λ x. x.trip < length p.trips) xs → All (λ x. group_number p x.trip ≡ x.group) xs → AreNumbered p xs
 numbers_of p xs known groups i d within j e inside =
     (λ k. nat_cmp (sym (groups i d within) k) (sym (groups j e inside) k))
     ∙ numbers_compare p (get_or xs i d).trip (get_or xs j e).trip (known i d within) (known j e inside)
 
-pub nothing_numbered : (p : Parts) (xs : List Listed) → xs ≡ [] → All (λ x. group_number p x.trip ≡ x.group) xs
+pub nothing_numbered : (p : Parts) (xs : List ListedEvent) → xs ≡ [] → All (λ x. group_number p x.trip ≡ x.group) xs
 nothing_numbered p [] none = λ k d within. absurd (omega arith)
 nothing_numbered p (x ∷ xs) none = cc
 

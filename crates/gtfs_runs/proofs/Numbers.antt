@@ -24,7 +24,7 @@ use Rattle.gtfs_rows.specs.Order.{Ascends}
 use Rattle.gtfs_rows.specs.declared.numbers.TripNo.{TripNo}
 use Rattle.gtfs_rows.specs.declared.parts.Parts.{Parts}
 use Rattle.gtfs_runs.specs.Order.{event_cmp}
-use Rattle.gtfs_runs.specs.declared.stop_lanes.listed.Listed.{Listed}
+use Rattle.gtfs_runs.specs.declared.stop_lanes.listed.ListedEvent.{ListedEvent}
 use Rattle.gtfs_runs.specs.steps.Courses.{AreServed, course_no_cmp, event_of, stopping_cmp, stopping_of}
 use Rattle.gtfs_runs.specs.steps.Groups.{Group, GroupedTripValue, below, group_cmp, group_of, grouped_cmp, sharing, trip_group}
 use Rattle.gtfs_runs.specs.steps.Numbers.{AreNumbered, IsNumbered, is_alike, listed_cmp}
@@ -52,15 +52,15 @@ groups_antisymmetric a b h =
 pub pairs_permuted : {X : Type 0} (R : X → X → Type 0) (xs ys : List X) → IsPermutation xs ys → All (λ x. All (R x) xs) xs → All (λ x. All (R x) ys) ys
 pairs_permuted R xs ys same all = All-permutation (λ x. All (R x) ys) xs ys same (λ k d h. All-permutation (R (get_or xs k d)) xs ys same (all k d h))
 
-pub numbers_left : (p : Parts) (n : ℕ) (xs : List Listed) → AreNumbered p xs → AreNumbered p (drop n xs)
+pub numbers_left : (p : Parts) (n : ℕ) (xs : List ListedEvent) → AreNumbered p xs → AreNumbered p (drop n xs)
 numbers_left p n xs all = All-drop (λ x. All (IsNumbered p x) (drop n xs)) n xs (λ k d h. All-drop (IsNumbered p (get_or xs k d)) n xs (all k d h))
 
 -- ---- who shares groups
 
 -- the trip of a further event is among these, or it is that of the event before
-pub trips_more : (xs : List Listed) (trips new : List TripNo) (n : ℕ) (t : TripNo) → ((d : Listed) → (get_or xs n d).trip ≡ t.0)
-    → new ≡ trips ++ t ∷ [] → ((k : ℕ) (d : Listed) → k < n → 1 ≤ tally (λ u. (get_or xs k d).trip == u.0) trips)
-    → (k : ℕ) (d : Listed) → k < n + 1 → 1 ≤ tally (λ u. (get_or xs k d).trip == u.0) new
+pub trips_more : (xs : List ListedEvent) (trips new : List TripNo) (n : ℕ) (t : TripNo) → ((d : ListedEvent) → (get_or xs n d).trip ≡ t.0)
+    → new ≡ trips ++ t ∷ [] → ((k : ℕ) (d : ListedEvent) → k < n → 1 ≤ tally (λ u. (get_or xs k d).trip == u.0) trips)
+    → (k : ℕ) (d : ListedEvent) → k < n + 1 → 1 ≤ tally (λ u. (get_or xs k d).trip == u.0) new
 trips_more xs trips new n t is pushed so_far k d upto = subst (λ l. 1 ≤ tally (λ u. (get_or xs k d).trip == u.0) l) (sym pushed) (elim (cases_Bool (nat_lt k n)) [
   | inl low ↦
       let before = so_far k d (ltb-true k n low) in
@@ -74,8 +74,8 @@ trips_more xs trips new n t is pushed so_far k d upto = subst (λ l. 1 ≤ tally
       omega (arith, more, one)
 ])
 
-pub trips_kept : (xs : List Listed) (trips new : List TripNo) (n : ℕ) → 0 < n → ((d : Listed) → (get_or xs (n - 1) d).trip ≡ (get_or xs n d).trip) → new ≡ trips
-    → ((k : ℕ) (d : Listed) → k < n → 1 ≤ tally (λ u. (get_or xs k d).trip == u.0) trips) → (k : ℕ) (d : Listed) → k < n + 1 → 1 ≤ tally (λ u. (get_or xs k d).trip == u.0) new
+pub trips_kept : (xs : List ListedEvent) (trips new : List TripNo) (n : ℕ) → 0 < n → ((d : ListedEvent) → (get_or xs (n - 1) d).trip ≡ (get_or xs n d).trip) → new ≡ trips
+    → ((k : ℕ) (d : ListedEvent) → k < n → 1 ≤ tally (λ u. (get_or xs k d).trip == u.0) trips) → (k : ℕ) (d : ListedEvent) → k < n + 1 → 1 ≤ tally (λ u. (get_or xs k d).trip == u.0) new
 trips_kept xs trips new n some before kept so_far k d upto = subst (λ l. 1 ≤ tally (λ u. (get_or xs k d).trip == u.0) l) (sym kept) (elim (cases_Bool (nat_lt k n)) [
   | inl low ↦ so_far k d (ltb-true k n low)
   | inr high ↦
@@ -103,9 +103,9 @@ shared p trips grouped t same some =
 -- ---- numbers against groups
 
 -- a further event has its number
-pub number_more : (p : Parts) (trips : List GroupedTripValue) (xs : List Listed) (n : ℕ) (y : Listed) → n < length xs → y.group ≡ below trips (trip_group p y.trip)
-    → ((k : ℕ) (d : Listed) → k < n → (get_or xs k d).group ≡ below trips (trip_group p (get_or xs k d).trip))
-    → (k : ℕ) (d : Listed) → k < n + 1 → (get_or (slice_set xs n y) k d).group ≡ below trips (trip_group p (get_or (slice_set xs n y) k d).trip)
+pub number_more : (p : Parts) (trips : List GroupedTripValue) (xs : List ListedEvent) (n : ℕ) (y : ListedEvent) → n < length xs → y.group ≡ below trips (trip_group p y.trip)
+    → ((k : ℕ) (d : ListedEvent) → k < n → (get_or xs k d).group ≡ below trips (trip_group p (get_or xs k d).trip))
+    → (k : ℕ) (d : ListedEvent) → k < n + 1 → (get_or (slice_set xs n y) k d).group ≡ below trips (trip_group p (get_or (slice_set xs n y) k d).trip)
 number_more p trips xs n y within number so_far k d upto = elim (cases_Bool (nat_lt k n)) [
   | inl low ↦
       let before : k < n = ltb-true k n low in
@@ -120,7 +120,7 @@ number_more p trips xs n y within number so_far k d upto = elim (cases_Bool (nat
 pub kept_by : {X Y : Type 0} (f : X → Y) (xs : List X) (n : ℕ) (x y : X) → x ≡ get_or xs n x → f y ≡ f x → map f (slice_set xs n y) ≡ map f xs
 kept_by f xs n x y is same = map-set_same f xs n y x (same ∙ ap f is)
 
-pub are_numbered : (p : Parts) (trips sorted : List GroupedTripValue) (xs : List Listed) → IsPermutation trips sorted → All (λ x. 1 ≤ sharing trips (trip_group p x.trip)) xs
+pub are_numbered : (p : Parts) (trips sorted : List GroupedTripValue) (xs : List ListedEvent) → IsPermutation trips sorted → All (λ x. 1 ≤ sharing trips (trip_group p x.trip)) xs
     → All (λ x. x.group ≡ below sorted (trip_group p x.trip)) xs → AreNumbered p xs
 are_numbered p trips sorted xs same shared numbers i d within j e inside =
     let g = trip_group p (get_or xs i d).trip in
@@ -149,7 +149,7 @@ decided Equal a b c s = ap (λ o. ordering_then a (ordering_then b (ordering_the
     last Greater = λ i. Greater
 decided Greater a b c s = λ i. Greater
 
-pub same_order : (p : Parts) (x y : Listed) → IsNumbered p x y → listed_cmp x y ≡ stopping_cmp (stopping_of p x) (stopping_of p y)
+pub same_order : (p : Parts) (x y : ListedEvent) → IsNumbered p x y → listed_cmp x y ≡ stopping_cmp (stopping_of p x) (stopping_of p y)
 same_order p x y is =
     let g = trip_group p x.trip in
     let h = trip_group p y.trip in
@@ -162,7 +162,7 @@ same_order p x y is =
     ∙ sym (then_assoc (group_cmp g h) r whole)
     ∙ ap (λ o. ordering_then o whole) (same_course_order p x y)
   where
-    same_course_order : (q : Parts) (a b : Listed) → ordering_then (group_cmp (trip_group q a.trip) (trip_group q b.trip)) (nat_cmp a.row b.row)
+    same_course_order : (q : Parts) (a b : ListedEvent) → ordering_then (group_cmp (trip_group q a.trip) (trip_group q b.trip)) (nat_cmp a.row b.row)
         ≡ course_no_cmp (stopping_of q a).course (stopping_of q b).course
     same_course_order q a b = then_assoc (nat_cmp (trip_group q a.trip).0 (trip_group q b.trip).0) _ (nat_cmp a.row b.row)
 
@@ -177,7 +177,7 @@ pub by_groups : (xs : List GroupedTripValue) → IsSorted grouped_cmp xs → IsS
 by_groups xs up k d from within = first_not_less _ _ (up k d from within)
 
 -- that of the fields, of which the service and the rank are the last
-abbrev pub field_cmp : Listed → Listed → Ordering
+abbrev pub field_cmp : ListedEvent → ListedEvent → Ordering
 field_cmp = then_cmp (on (λ x. x.group) nat_cmp)
     (then_cmp (on (λ x. x.row) nat_cmp)
     (then_cmp (on (λ x. x.at) nat_cmp)
@@ -188,7 +188,7 @@ field_cmp = then_cmp (on (λ x. x.group) nat_cmp)
     (on (λ x. x.rank) nat_cmp)))))))
 
 -- what is not less by the fields is not less without the service and the rank
-without_service : (x y : Listed) → is_lt (field_cmp x y) ≡ false → is_lt (listed_cmp x y) ≡ false
+without_service : (x y : ListedEvent) → is_lt (field_cmp x y) ≡ false → is_lt (listed_cmp x y) ≡ false
 without_service x y h = first_not_less (listed_cmp x y) last (ap is_lt (sym apart) ∙ h)
   where
     last : Ordering
@@ -202,7 +202,7 @@ without_service x y h = first_not_less (listed_cmp x y) last (ap is_lt (sym apar
         further (nat_cmp x.group y.group) _ _ _ (further (nat_cmp x.row y.row) _ _ _ (further (nat_cmp x.at y.at) _ _ _ (further (nat_cmp x.trip y.trip) _ _ _
         (sym (then_assoc (nat_cmp x.run y.run) (nat_cmp x.seq y.seq) last)))))
 
-pub in_order : (p : Parts) (xs : List Listed) → AreNumbered p xs → IsSorted field_cmp xs → IsSorted (λ x y. stopping_cmp (stopping_of p x) (stopping_of p y)) xs
+pub in_order : (p : Parts) (xs : List ListedEvent) → AreNumbered p xs → IsSorted field_cmp xs → IsSorted (λ x y. stopping_cmp (stopping_of p x) (stopping_of p y)) xs
 in_order p xs numbers up k d from within =
     let x = get_or xs (k + 1) d in
     let y = get_or xs k d in
@@ -210,12 +210,12 @@ in_order p xs numbers up k d from within =
 
 -- ---- ascending events
 
-pub courses_ascend : (p : Parts) (xs : List Listed) → AreNumbered p xs → Ascends listed_cmp xs → Ascends stopping_cmp (map (stopping_of p) xs)
+pub courses_ascend : (p : Parts) (xs : List ListedEvent) → AreNumbered p xs → Ascends listed_cmp xs → Ascends stopping_cmp (map (stopping_of p) xs)
 courses_ascend p xs numbers up =
     pairs-map (stopping_of p) (λ a b. stopping_cmp a b ≡ Less) xs (λ i j d before within.
     sym (same_order p (get_or xs i d) (get_or xs j d) (numbers i d (omega (arith, before, within)) j d within)) ∙ up i j d before within)
 
-pub events_ascend : (p : Parts) (xs : List Listed) → AreNumbered p xs → Ascends stopping_cmp (map (stopping_of p) xs) → Ascends listed_cmp xs
+pub events_ascend : (p : Parts) (xs : List ListedEvent) → AreNumbered p xs → Ascends stopping_cmp (map (stopping_of p) xs) → Ascends listed_cmp xs
 events_ascend p xs numbers up i j d before within =
     let inside : j < length (map (stopping_of p) xs) = let size = length-map xs (stopping_of p) in omega (arith, size, within) in
     let here : i < length xs = omega (arith, before, within) in
@@ -224,13 +224,13 @@ events_ascend p xs numbers up i j d before within =
     ∙ up i j (stopping_of p d) before inside
 
 -- of one group and position the event decides
-alike_less : (x y : Listed) → nat_cmp x.group y.group ≡ Equal → nat_cmp x.row y.row ≡ Equal → listed_cmp x y ≡ Less → event_cmp (event_of x) (event_of y) ≡ Less
+alike_less : (x y : ListedEvent) → nat_cmp x.group y.group ≡ Equal → nat_cmp x.row y.row ≡ Equal → listed_cmp x y ≡ Less → event_cmp (event_of x) (event_of y) ≡ Less
 alike_less x y group row less =
     let whole = event_cmp (event_of x) (event_of y) in
     (λ k. ordering_then (sym group k) (ordering_then (sym row k) whole))
     ∙ sym (ap (ordering_then (nat_cmp x.group y.group)) (decided (nat_cmp x.row y.row) (nat_cmp x.at y.at) (nat_cmp x.trip y.trip) (nat_cmp x.run y.run) (nat_cmp x.seq y.seq))) ∙ less
 
-pub alike_ascend : (xs : List Listed) (n : ℕ) → n ≤ length xs → ((k : ℕ) (d : Listed) → k < n → is_alike (get_or xs 0 d) (get_or xs k d) ≡ true) → Ascends listed_cmp xs
+pub alike_ascend : (xs : List ListedEvent) (n : ℕ) → n ≤ length xs → ((k : ℕ) (d : ListedEvent) → k < n → is_alike (get_or xs 0 d) (get_or xs k d) ≡ true) → Ascends listed_cmp xs
     → Ascends event_cmp (map event_of (take n xs))
 alike_ascend xs n upto alike up =
     pairs-map event_of (λ a b. event_cmp a b ≡ Less) (take n xs) (λ i j d before within.
@@ -249,8 +249,8 @@ alike_ascend xs n upto alike up =
     one_number a m n first second = (λ k. nat_cmp (sym (eqb-true a m first) k) (sym (eqb-true a n second) k)) ∙ tied_itself nat_cmp_total a
 
 -- one event more of the group and position of the first
-pub alike_more : (xs : List Listed) (n : ℕ) (a b : Listed) → n < length xs → a ≡ get_or xs 0 a → b ≡ get_or xs n b → is_alike a b ≡ true
-    → ((k : ℕ) (d : Listed) → k < n → is_alike (get_or xs 0 d) (get_or xs k d) ≡ true) → (k : ℕ) (d : Listed) → k < n + 1 → is_alike (get_or xs 0 d) (get_or xs k d) ≡ true
+pub alike_more : (xs : List ListedEvent) (n : ℕ) (a b : ListedEvent) → n < length xs → a ≡ get_or xs 0 a → b ≡ get_or xs n b → is_alike a b ≡ true
+    → ((k : ℕ) (d : ListedEvent) → k < n → is_alike (get_or xs 0 d) (get_or xs k d) ≡ true) → (k : ℕ) (d : ListedEvent) → k < n + 1 → is_alike (get_or xs 0 d) (get_or xs k d) ≡ true
 alike_more xs n a b inside first last same so_far k d below = elim (cases_Bool (nat_lt k n)) [
   | inl is ↦ so_far k d (ltb-true k n is)
   | inr isnt ↦
@@ -262,13 +262,13 @@ alike_more xs n a b inside first last same so_far k d below = elim (cases_Bool (
 -- ---- services
 
 -- an event that gets its number keeps its service
-pub served_kept : (p : Parts) (xs : List Listed) (n : ℕ) (x y : Listed) → n < length xs → x ≡ get_or xs n x → y.trip ≡ x.trip → y.service ≡ x.service → AreServed p xs
+pub served_kept : (p : Parts) (xs : List ListedEvent) (n : ℕ) (x y : ListedEvent) → n < length xs → x ≡ get_or xs n x → y.trip ≡ x.trip → y.service ≡ x.service → AreServed p xs
     → AreServed p (slice_set xs n y)
 served_kept p xs n x y within is trip service served =
     let own : (trip_group p x.trip).0 ≡ x.service = subst (λ z. (trip_group p z.trip).0 ≡ z.service) (sym is) (served n x within) in
     All-set (λ z. (trip_group p z.trip).0 ≡ z.service) xs n y (ap (λ t. (trip_group p t).0) trip ∙ own ∙ sym service) served
 
-pub served_left : (p : Parts) (n : ℕ) (xs : List Listed) → AreServed p xs → AreServed p (drop n xs)
+pub served_left : (p : Parts) (n : ℕ) (xs : List ListedEvent) → AreServed p xs → AreServed p (drop n xs)
 served_left p n xs served = All-drop (λ x. (trip_group p x.trip).0 ≡ x.service) n xs served
 
 -- ---- the steps of the code
@@ -278,7 +278,7 @@ both_made (Ok x) P Q R take first second = take x first second
 both_made (Err e) P Q R take first second = tt
 
 -- events of the same trips share with as many
-pub shared_by : (p : Parts) (trips : List GroupedTripValue) (xs ys : List Listed) → ((q : Parts) → map (stopping_of q) xs ≡ map (stopping_of q) ys)
+pub shared_by : (p : Parts) (trips : List GroupedTripValue) (xs ys : List ListedEvent) → ((q : Parts) → map (stopping_of q) xs ≡ map (stopping_of q) ys)
     → All (λ x. 1 ≤ sharing trips (trip_group p x.trip)) xs → All (λ x. 1 ≤ sharing trips (trip_group p x.trip)) ys
 shared_by p trips xs ys same all =
     all_mapped (λ z. 1 ≤ sharing trips (trip_group p z.event.trip.0)) (stopping_of p) ys

@@ -27,7 +27,7 @@ use Rattle.gtfs_runs.specs.StopIndex.{is_this_row}
 use Rattle.gtfs_runs.specs.StopLanes.{LaneValue}
 use Rattle.gtfs_runs.specs.declared.event.Event.{Event}
 use Rattle.gtfs_runs.specs.declared.stop_index.DepartureRow.{DepartureRow}
-use Rattle.gtfs_runs.specs.declared.stop_lanes.listed.Listed.{Listed}
+use Rattle.gtfs_runs.specs.declared.stop_lanes.listed.ListedEvent.{ListedEvent}
 use Rattle.gtfs_runs.specs.declared.stop_lanes.passing.Passing.{Passing}
 use Rattle.gtfs_runs.specs.steps.Courses.{IsCourse, IsListed, Stopping, course_of, stopping_events, stopping_of}
 use Rattle.gtfs_runs.specs.steps.Finds.{AreFound, AreTold, stopping_at, times_passed, times_passed_in, times_told}
@@ -285,7 +285,7 @@ module _ (choice : Times) (p : Parts) (sound : IsSoundParts p) (s : ℕ) where
       fewer l k n m is some short = omega (arith, is, some, short)
 
   -- what all rows of the place add to nothing is what leaves it
-  pub all_found : (xs : List DepartureRow) (listed : List Listed) (periods : List LaneValue) → AreOfPlace q s xs → All (IsNoted q) xs → AreAdded p xs [] listed [] periods
+  pub all_found : (xs : List DepartureRow) (listed : List ListedEvent) (periods : List LaneValue) → AreOfPlace q s xs → All (IsNoted q) xs → AreAdded p xs [] listed [] periods
       → AreFound q s (length p.trips) (map (stopping_of p) listed) periods
   all_found xs listed periods of noted added =
       let zs = by_number xs in

@@ -20,7 +20,7 @@ use Rattle.gtfs_runs.specs.Kinds.{IsPeriodLane}
 use Rattle.gtfs_runs.specs.StopLanes.{LaneValue}
 use Rattle.gtfs_runs.specs.declared.event.Event.{Event}
 use Rattle.gtfs_runs.specs.declared.stop_index.DepartureRow.{DepartureRow}
-use Rattle.gtfs_runs.specs.declared.stop_lanes.listed.Listed.{Listed}
+use Rattle.gtfs_runs.specs.declared.stop_lanes.listed.ListedEvent.{ListedEvent}
 use Rattle.gtfs_runs.specs.steps.Courses.{AreServed, event_of, stopping_of}
 use Rattle.gtfs_runs.specs.steps.Finds.{times_passed_in, times_told}
 use Rattle.gtfs_runs.specs.steps.Groups.{trip_group}
@@ -36,7 +36,7 @@ no_row = record { trip = 0; row = 0; left = 0; sequence = 0; rank = 0 }
 -- ---- one row
 
 -- its event, where its trip has no frequencies
-pub event_added : (p : Parts) (row : DepartureRow) (x : Listed) (old new : List Listed) (periods : List LaneValue) → (length (row_periods p row) == 0) ≡ true
+pub event_added : (p : Parts) (row : DepartureRow) (x : ListedEvent) (old new : List ListedEvent) (periods : List LaneValue) → (length (row_periods p row) == 0) ≡ true
     → event_of x ≡ passing_event row.trip (first_left (get_or (stop_rows_by_trip p) row.trip [])) (row_passing p row) → x.service ≡ (trip_group p row.trip).0 → new ≡ old ++ x ∷ []
     → AreAdded p (row ∷ []) old new periods periods
 event_added p row x old new periods once event service pushed =
@@ -61,7 +61,7 @@ event_added p row x old new periods once event service pushed =
     nothing false = refl
 
 -- its lanes, where it has some
-pub periods_added : (p : Parts) → IsSoundParts p → (row : DepartureRow) (service : ℕ) (fs : List Frequency) (listed : List Listed) (before after : List LaneValue) → row.trip < length p.trips
+pub periods_added : (p : Parts) → IsSoundParts p → (row : DepartureRow) (service : ℕ) (fs : List Frequency) (listed : List ListedEvent) (before after : List LaneValue) → row.trip < length p.trips
     → service ≡ (trip_group p row.trip).0 → slice_get (frequencies_by_trip p) row.trip ≡ Some fs → (length fs == 0) ≡ false
     → ((k : ℕ) (e : Event) → times_told k e after ≡ times_told k e before + cond (service == k) (times_passed_in row.trip e (row_passing p row ∷ []) fs) 0)
     → length after ≡ length before + length fs
@@ -97,7 +97,7 @@ periods_added p sound row service fs listed before after inside serves at severa
 
 -- ---- several rows
 
-pub none_added : (p : Parts) (listed : List Listed) (periods : List LaneValue) → AreAdded p [] listed listed periods periods
+pub none_added : (p : Parts) (listed : List ListedEvent) (periods : List LaneValue) → AreAdded p [] listed listed periods periods
 none_added p listed periods = record {
   events = sym (append-nil (map (stopping_of p) listed));
   services = λ were. were;
@@ -110,7 +110,7 @@ none_added p listed periods = record {
     no_more : (n : ℕ) → n ≡ n + 0
     no_more n = omega arith
 
-pub more_added : (p : Parts) (xs ys : List DepartureRow) (old mid new : List Listed) (before between after : List LaneValue) → AreAdded p xs old mid before between → AreAdded p ys mid new between after
+pub more_added : (p : Parts) (xs ys : List DepartureRow) (old mid new : List ListedEvent) (before between after : List LaneValue) → AreAdded p xs old mid before between → AreAdded p ys mid new between after
     → AreAdded p (xs ++ ys) old new before after
 more_added p xs ys old mid new before between after first second = record {
   events = second.events ∙ ap (λ l. l ++ stoppings p ys) first.events ∙ append_assoc (map (stopping_of p) old) (stoppings p xs) (stoppings p ys) ∙ ap (λ l. map (stopping_of p) old ++ l) (sym (stoppings-append p xs ys));

@@ -4,7 +4,8 @@ use Rattle.std.specs.Prelude.{◌&&◌, is_some, unwrap_or, option_map, if◌the
 use Rattle.std.specs.List.{enumerate_from, list_any, slice_get}
 use Rattle.std.proofs.lemmas.Bool.{false≢true}
 use Rattle.std.proofs.lemmas.Option.{slice_get-map}
-use Rattle.gtfs_rows.specs.Trips.{left_at, stop_rows_by_trip}
+use Rattle.gtfs_rows.specs.Trips.{stop_rows_by_trip}
+use Rattle.gtfs_stop_times.specs.RowTimes.{left_at}
 use Rattle.gtfs_rows.specs.Views.{IsSoundParts}
 use Rattle.gtfs_rows.specs.declared.parts.Parts.{Parts}
 use Rattle.gtfs_stop_times.specs.declared.stop_row.StopRow.{StopRow}

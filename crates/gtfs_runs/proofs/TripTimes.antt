@@ -11,7 +11,8 @@ use Rattle.gtfs_rows.specs.declared.frequency.Frequency.{Frequency}
 use Rattle.gtfs_rows.specs.declared.parts.Parts.{Parts}
 use Rattle.gtfs_stop_times.specs.declared.stop_row.StopRow.{StopRow}
 use Rattle.gtfs_rows.specs.Views.{IsSoundParts}
-use Rattle.gtfs_rows.specs.Trips.{AreStopTimes, frequencies_by_trip, left_at, stop_rows_by_trip}
+use Rattle.gtfs_rows.specs.Trips.{AreStopTimes, frequencies_by_trip, stop_rows_by_trip}
+use Rattle.gtfs_stop_times.specs.RowTimes.{left_at}
 use Rattle.gtfs_rows.proofs.TripFacts.{periods}
 use Rattle.gtfs_runs.specs.steps.Finds.{HasRuns}
 use Rattle.gtfs_runs.specs.steps.Passings.{first_left}

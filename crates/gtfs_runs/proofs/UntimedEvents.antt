@@ -13,7 +13,8 @@ use Rattle.gtfs_rows.specs.Content.{Content}
 use Rattle.gtfs_rows.specs.Places.{is_in_place}
 use Rattle.gtfs_rows.specs.Rows.{StopRow, Trip}
 use Rattle.gtfs_rows.specs.Runs.{allows_boarding, is_departure_row, is_not_last, is_run, is_timed, passes_at}
-use Rattle.gtfs_rows.specs.Trips.{frequencies_by_trip, left_at, stop_rows_by_trip}
+use Rattle.gtfs_rows.specs.Trips.{frequencies_by_trip, stop_rows_by_trip}
+use Rattle.gtfs_stop_times.specs.RowTimes.{left_at}
 use Rattle.gtfs_rows.specs.Views.{IsSoundParts, content_of_parts, stop_row_of, text_of_number}
 use Rattle.gtfs_rows.specs.declared.parts.Parts.{Parts}
 use Rattle.gtfs_stop_times.specs.declared.stop_row.StopRow.{StopRow as StopTime}

@@ -1,5 +1,5 @@
 ghost use Rattle.std.specs.Prelude.{◌≡◌, ◌≤◌, ◌<◌, ◌&&◌, All, AllPairs, List, false, length, slice_index_or, unwrap_or};
-ghost use Rattle.gtfs_rows.specs.Trips.{left_at};
+ghost use Rattle.gtfs_stop_times.specs.RowTimes.{left_at};
 ghost use Rattle.gtfs_rows.specs.Views.{stop_row_of, trip_of};
 ghost use Rattle.gtfs_rows.specs.declared.frequency.Frequency.{Frequency};
 ghost use Rattle.gtfs_rows.specs.declared.parts.Parts.{Parts};
@@ -9,7 +9,6 @@ ghost use Rattle.gtfs_rows.specs.Runs.{allows_boarding, is_departure_row, is_tim
 ghost use Rattle.gtfs_runs.specs.steps.Passings.{first_left};
 
 use crate::place::Place;
-use gtfs_field::Clock;
 use gtfs_rows::StopRow;
 
 // Whether riders can leave a stop at the stop time of this position among those of a trip.
@@ -31,14 +30,7 @@ fn lets_board(row: &StopRow) -> bool
     ensures { (p : Parts) → result
         ≡ (is_timed (stop_row_of p row.now) && allows_boarding (stop_row_of p row.now)) }
 {
-    departure(row).is_some() && row.pickup_type.number() != 1
-}
-
-// When a vehicle leaves: its departure time, or where there is none its arrival time.
-pub(crate) fn departure(row: &StopRow) -> Option<Clock>
-    ensures { result ≡ left_at row.now }
-{
-    row.departure_time.get().or(row.arrival_time.get())
+    row.is_timed() && row.pickup_type.number() != 1
 }
 
 // Whether riders can leave the place at the stop time of this position.
@@ -68,5 +60,5 @@ pub(crate) fn left(row: &StopRow) -> u32
     ensures value { result ≡ unwrap_or (left_at row.now) 0 }
     ensures bound { result ≤ 7_199_999 }
 {
-    departure(row).map_or(0, |clock| clock.seconds())
+    row.departs().map_or(0, |clock| clock.seconds())
 }

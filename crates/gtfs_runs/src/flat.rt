@@ -1,5 +1,6 @@
 ghost use Rattle.std.specs.Prelude.{◌≡◌, ◌≤◌, ◌<◌, ◌+◌, ◌++◌, ◌&&◌, ◌==◌, ℕ, List, All, IfOk, OnOk, Some, cond, length, map, slice_get, slice_index_or, unwrap_or};
-ghost use Rattle.gtfs_rows.specs.Trips.{ArePeriods, left_at, stop_rows_by_trip};
+ghost use Rattle.gtfs_rows.specs.Trips.{ArePeriods, stop_rows_by_trip};
+ghost use Rattle.gtfs_stop_times.specs.RowTimes.{left_at};
 ghost use Rattle.gtfs_rows.specs.Views.{content_of_parts, frequency_of, stop_ids, stop_row_of, text_of_number, trip_of};
 ghost use Rattle.gtfs_rows.specs.declared.frequency.Frequency.{Frequency as FrequencyRow};
 ghost use Rattle.gtfs_rows.specs.declared.parts.Parts.{Parts};
@@ -14,7 +15,7 @@ ghost use Rattle.gtfs_runs.specs.steps.Passings.{AreTripTimes};
 ghost use Rattle.gtfs_times.specs.TimedRows.{timed_parts};
 ghost use Rattle.gtfs_times.specs.declared.times.Times.{Times as TimesValue};
 
-use crate::departure_row::{departure, leaves_place};
+use crate::departure_row::{leaves_place, left};
 use crate::event::Event;
 use crate::place::Place;
 use gtfs_feed::Feed;
@@ -200,22 +201,11 @@ fn event_at(trip: TripNo, rows: &[StopRow], position: usize, run: u32) -> Event
 {
     let row = &rows[position];
     Event {
-        at: run + leaves(row) - leaves(&rows[0]),
+        at: run + left(row) - left(&rows[0]),
         trip,
         run,
         seq: row.stop_sequence,
         row: position,
-    }
-}
-
-// When a vehicle leaves, 0 where there is no time.
-fn leaves(row: &StopRow) -> u32
-    ensures value { result ≡ unwrap_or (left_at row.now) 0 }
-    ensures bound { result < 7_200_000 }
-{
-    match departure(row) {
-        Some(time) => time.seconds(),
-        None => 0,
     }
 }
 
@@ -232,7 +222,7 @@ fn starts(alloc: Global, rows: &[StopRow], periods: &[Frequency]) -> Result<Vec<
 {
     let mut starts = Vec::new(alloc);
     if periods.is_empty() {
-        starts.push(leaves(&rows[0]))?;
+        starts.push(left(&rows[0]))?;
         return Ok(starts);
     }
     for period in periods {

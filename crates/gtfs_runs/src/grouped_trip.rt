@@ -2,10 +2,10 @@ ghost use Rattle.std.specs.Prelude.{◌≡◌, ◌<◌, ◌^◌, IfOk, length, s
 ghost use Rattle.std.specs.List.Sorted.{IsPermutation, IsSorted};
 ghost use Rattle.gtfs_runs.specs.steps.Groups.{group_cmp, group_of, grouped_cmp, lead_of, trip_group};
 
-use crate::stop_index::small_number;
 use gtfs_feed::Feed;
 use gtfs_field::OutOfMemory;
 use gtfs_rows::TripNo;
+use gtfs_stop_times::small_number;
 use std::cmp::Ordering;
 use std::marker::Model;
 

@@ -14,7 +14,7 @@ mod rows_by_stop;
 
 use crate::departure_row::left;
 use crate::grouped_trip::by_group;
-pub(crate) use crate::stop_index::at_stops::{row_at, small_number};
+pub(crate) use crate::stop_index::at_stops::row_at;
 pub(crate) use crate::stop_index::children::Child;
 use crate::stop_index::children::Children;
 pub(crate) use crate::stop_index::indexed_trips::{IndexedTrip, trip_at};

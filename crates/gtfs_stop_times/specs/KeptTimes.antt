@@ -1,9 +1,9 @@
 -- A stop time as it is kept: its trip, how its times stand, and when its stop is reached and left.
 use Rattle.std.specs.Prelude.{ℕ, Bool, true, false, ◌&&◌, if◌then◌else◌, is_some, not, Option, None}
-use Rattle.std.specs.Option.{option_or}
+use Rattle.gtfs_stop_times.specs.RowTimes.{left_at, reached_at}
 use Rattle.gtfs_stop_times.specs.declared.stop_time.StopTime.{StopTime}
-use Rattle.gtfs_stop_times.specs.declared.stop_time.Times.{Times}
-use Rattle.gtfs_stop_times.specs.declared.stop_time.Times.TheVariants as times
+use Rattle.gtfs_stop_times.specs.declared.stop_time.ReadTimes.{ReadTimes}
+use Rattle.gtfs_stop_times.specs.declared.stop_time.ReadTimes.TheVariants as times
 
 -- the row with the number of its trip
 abbrev pub with_trip : StopTime → ℕ → StopTime
@@ -18,13 +18,13 @@ with_trip r trip = record {
 -- ---- its times
 
 -- each of them is readable, or empty
-abbrev pub are_clear : Times → Bool
+abbrev pub are_clear : ReadTimes → Bool
 are_clear times.Clear = true
 are_clear times.Unclear = false
 are_clear times.Unplaced = false
 
 -- the row has a sequence
-abbrev pub is_placed : Times → Bool
+abbrev pub is_placed : ReadTimes → Bool
 is_placed times.Clear = true
 is_placed times.Unclear = true
 is_placed times.Unplaced = false
@@ -33,9 +33,9 @@ is_placed times.Unplaced = false
 abbrev pub is_untimed : StopTime → Bool
 is_untimed r = are_clear r.times && (not (is_some r.stop_row.arrival_time) && not (is_some r.stop_row.departure_time))
 
--- each of them, or the other where it is empty; none where one of them is not as it has to be
+-- when it is reached and left, but not where one of its times is not as it has to be
 abbrev pub arrives : StopTime → Option ℕ
-arrives r = if are_clear r.times then option_or r.stop_row.arrival_time r.stop_row.departure_time else None
+arrives r = if are_clear r.times then reached_at r.stop_row else None
 
 abbrev pub departs : StopTime → Option ℕ
-departs r = if are_clear r.times then option_or r.stop_row.departure_time r.stop_row.arrival_time else None
+departs r = if are_clear r.times then left_at r.stop_row else None

@@ -9,5 +9,6 @@ pub mod Optional
 pub mod RankedRows
 pub mod Renumbered
 pub mod RowNotes
+pub mod RowTimes
 pub mod StopLists
 pub mod StopTimeOrder

@@ -1,16 +1,16 @@
 -- What is noted of a row beside what it says, and how it stands in one number.
 use Rattle.std.specs.Prelude.{◌==◌, ◌/◌, ◌%◌, ℕ, zero, suc, Bool}
 use Rattle.gtfs_stop_times.specs.declared.row_note.RowNote.{RowNote}
-use Rattle.gtfs_stop_times.specs.declared.stop_time.Times.{Times}
-use Rattle.gtfs_stop_times.specs.declared.stop_time.Times.TheVariants as times
+use Rattle.gtfs_stop_times.specs.declared.stop_time.ReadTimes.{ReadTimes}
+use Rattle.gtfs_stop_times.specs.declared.stop_time.ReadTimes.TheVariants as times
 
 pub record Noted : Type 0 where
   pub trip : ℕ
   pub has_headsign : Bool
-  pub times : Times
+  pub times : ReadTimes
 
 -- how the times of a row stand, by a number
-abbrev pub times_numbered : ℕ → Times
+abbrev pub times_numbered : ℕ → ReadTimes
 times_numbered zero = times.Clear
 times_numbered (suc zero) = times.Unclear
 times_numbered (suc (suc n)) = times.Unplaced

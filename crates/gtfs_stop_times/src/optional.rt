@@ -1,7 +1,7 @@
 ghost use Rattle.std.specs.Prelude.{◌≡◌, ◌<◌};
 
 use crate::numbers::HeadsignNo;
-use gtfs_field::Clock;
+use gtfs_field::{Clock, OutOfMemory};
 use std::marker::Model;
 
 // What stands for no value: it is no number of seconds, and no number of a headsign.
@@ -75,7 +75,7 @@ impl Model for OptionalHeadsign {
 }
 
 impl OptionalHeadsign {
-    ghost use Rattle.std.specs.Prelude.{None, Some, option_map, IfSome};
+    ghost use Rattle.std.specs.Prelude.{None, Some, option_map, IfOk, IfSome};
 
     /// The headsign of this number, which is below 4,294,967,295, or none.
     pub fn new(headsign: Option<HeadsignNo>) -> OptionalHeadsign
@@ -85,6 +85,19 @@ impl OptionalHeadsign {
         match headsign {
             Some(HeadsignNo(number)) => OptionalHeadsign { number },
             None => OptionalHeadsign { number: NOTHING },
+        }
+    }
+
+    /// The headsign at an index in a list of headsigns.
+    ///
+    /// # Errors
+    /// `OutOfMemory` where the index is above 4,294,967,294: no number is left for more headsigns.
+    pub fn at_index(index: usize) -> Result<OptionalHeadsign, OutOfMemory>
+        ensures { IfOk result (λ headsign. headsign ≡ Some index) }
+    {
+        match u32::try_from(index) {
+            Ok(number) if number < u32::MAX => Ok(OptionalHeadsign::new(Some(HeadsignNo(number)))),
+            _ => Err(OutOfMemory),
         }
     }
 

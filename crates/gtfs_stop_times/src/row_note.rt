@@ -1,7 +1,7 @@
 ghost use Rattle.std.specs.Prelude.{◌≡◌, ◌<◌, ◌^◌, IfOk, IsOk, if◌then◌else◌};
 ghost use Rattle.gtfs_stop_times.specs.RowNotes.{noted, times_numbered};
 
-use crate::stop_time::Times;
+use crate::stop_time::ReadTimes;
 use gtfs_field::OutOfMemory;
 
 // The greatest number of a trip that has room in a note: 2^29 - 1.
@@ -17,7 +17,11 @@ pub(crate) struct RowNote {
 impl RowNote {
     // No number is left for more than 536,870,912 trips.
     #[inline(always)]
-    pub(crate) fn new(trip: u32, has_headsign: bool, times: Times) -> Result<RowNote, OutOfMemory>
+    pub(crate) fn new(
+        trip: u32,
+        has_headsign: bool,
+        times: ReadTimes,
+    ) -> Result<RowNote, OutOfMemory>
         ensures note { IfOk result (λ note. noted note ≡ record {
           trip = trip;
           has_headsign = has_headsign;
@@ -51,13 +55,13 @@ impl RowNote {
 
     // How the times of the row stand.
     #[inline(always)]
-    pub(crate) fn times(self) -> Times
+    pub(crate) fn times(self) -> ReadTimes
         ensures { result ≡ (noted self).times }
     {
         match self.packed / 2 % 4 {
-            0 => Times::Clear,
-            1 => Times::Unclear,
-            _ => Times::Unplaced,
+            0 => ReadTimes::Clear,
+            1 => ReadTimes::Unclear,
+            _ => ReadTimes::Unplaced,
         }
     }
 }
@@ -71,13 +75,13 @@ fn bit(is: bool) -> u32
 }
 
 #[inline(always)]
-fn number_of(times: Times) -> u32
+fn number_of(times: ReadTimes) -> u32
     ensures value { times_numbered result ≡ times }
     ensures small { result < 4 }
 {
     match times {
-        Times::Clear => 0,
-        Times::Unclear => 1,
-        Times::Unplaced => 2,
+        ReadTimes::Clear => 0,
+        ReadTimes::Unclear => 1,
+        ReadTimes::Unplaced => 2,
     }
 }

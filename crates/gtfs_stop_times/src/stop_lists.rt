@@ -3,6 +3,7 @@ ghost use Rattle.gtfs_stop_times.specs.ByTrip.{AreWithin, items_in};
 ghost use Rattle.gtfs_stop_times.specs.StopLists.{LiesIn, stops_in};
 
 use crate::by_trip::RowRange;
+use crate::numbers::small_number;
 use crate::stop_row::StopRow;
 use gtfs_field::OutOfMemory;
 use std::alloc::Global;
@@ -104,10 +105,7 @@ fn push_stops(stops: &mut Vec<u32>, rows: &[StopRow]) -> Result<(), OutOfMemory>
     ensures none_lost { length stops.old.items ≤ length stops.new.items }
 {
     for row in rows {
-        match u32::try_from(row.stop_id.0) {
-            Ok(stop) => stops.push(stop)?,
-            Err(_) => return Err(OutOfMemory),
-        }
+        stops.push(small_number(row.stop_id.0)?)?;
     }
     Ok(())
 }

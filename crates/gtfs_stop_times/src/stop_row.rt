@@ -1,6 +1,10 @@
+ghost use Rattle.std.specs.Prelude.{◌≡◌, is_some};
+ghost use Rattle.gtfs_stop_times.specs.RowTimes.{left_at, reached_at};
+
 use crate::choices::{DropOffType, PickupType, Timepoint};
 use crate::numbers::StopNo;
 use crate::optional::{OptionalClock, OptionalHeadsign};
+use gtfs_field::Clock;
 
 /// A row of `stop_times.txt`, without its trip (GTFS Schedule Reference, `stop_times.txt`).
 ///
@@ -17,4 +21,30 @@ pub struct StopRow {
     pub pickup_type: PickupType,
     pub drop_off_type: DropOffType,
     pub timepoint: Option<Timepoint>,
+}
+
+impl StopRow {
+    /// When a vehicle comes: the arrival time, or where that is missing the departure time.
+    #[inline(always)]
+    pub fn arrives(&self) -> Option<Clock>
+        ensures { result ≡ reached_at self.now }
+    {
+        self.arrival_time.get().or(self.departure_time.get())
+    }
+
+    /// When a vehicle leaves: the departure time, or where that is missing the arrival time.
+    #[inline(always)]
+    pub fn departs(&self) -> Option<Clock>
+        ensures { result ≡ left_at self.now }
+    {
+        self.departure_time.get().or(self.arrival_time.get())
+    }
+
+    /// Whether it has an arrival time or a departure time.
+    #[inline(always)]
+    pub fn is_timed(&self) -> bool
+        ensures { result ≡ is_some (left_at self.now) }
+    {
+        self.departs().is_some()
+    }
 }

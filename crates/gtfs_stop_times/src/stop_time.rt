@@ -1,13 +1,11 @@
-ghost use Rattle.std.specs.Option.{option_or};
 ghost use Rattle.std.specs.Prelude.{◌≡◌};
 ghost use Rattle.gtfs_stop_times.specs.KeptTimes.{arrives, departs, are_clear, is_placed, is_untimed, with_trip};
 
-use crate::optional::OptionalClock;
 use crate::stop_row::StopRow;
 
 /// How the times of a stop time stand.
 #[derive(Clone, Copy)]
-pub enum Times {
+pub enum ReadTimes {
     /// Each of them is readable, or empty.
     Clear,
     /// One of them is not as it has to be.
@@ -27,32 +25,21 @@ pub struct StopTime {
     /// Whether its row has a headsign, a field that is not blank.
     pub has_headsign: bool,
     /// How its times stand.
-    pub times: Times,
+    pub times: ReadTimes,
     /// What the row says, without its headsign.
     pub stop_row: StopRow,
 }
 
-// A time in seconds, and else another one.
-#[inline(always)]
-fn first_seconds(time: OptionalClock, other: OptionalClock) -> Option<u32>
-    ensures { result ≡ option_or time other }
-{
-    match time.get() {
-        Some(time) => Some(time.seconds()),
-        None => other.get().map(|time| time.seconds()),
-    }
-}
-
-impl Times {
+impl ReadTimes {
     // Whether each of them is readable, or empty.
     #[inline(always)]
     fn are_clear(self) -> bool
         ensures { result ≡ are_clear self }
     {
         match self {
-            Times::Clear => true,
-            Times::Unclear => false,
-            Times::Unplaced => false,
+            ReadTimes::Clear => true,
+            ReadTimes::Unclear => false,
+            ReadTimes::Unplaced => false,
         }
     }
 
@@ -62,9 +49,9 @@ impl Times {
         ensures { result ≡ is_placed self }
     {
         match self {
-            Times::Clear => true,
-            Times::Unclear => true,
-            Times::Unplaced => false,
+            ReadTimes::Clear => true,
+            ReadTimes::Unclear => true,
+            ReadTimes::Unplaced => false,
         }
     }
 }
@@ -86,7 +73,7 @@ impl StopTime {
         if !self.times.are_clear() {
             return None;
         }
-        first_seconds(self.stop_row.arrival_time, self.stop_row.departure_time)
+        self.stop_row.arrives().map(|time| time.seconds())
     }
 
     /// When it is left, in seconds: at its departure time, and else at its arrival time.
@@ -97,7 +84,7 @@ impl StopTime {
         if !self.times.are_clear() {
             return None;
         }
-        first_seconds(self.stop_row.departure_time, self.stop_row.arrival_time)
+        self.stop_row.departs().map(|time| time.seconds())
     }
 
     /// Whether both of its times are empty.

@@ -9,7 +9,7 @@ use Rattle.std.proofs.lemmas.List.FromFn.{get_or-enumerate_from, length-enumerat
 use Rattle.gtfs_rows.specs.NamedRows.{stop_row_named}
 use Rattle.gtfs_rows.specs.Rows as content
 use Rattle.gtfs_rows.specs.Runs.{is_timed}
-use Rattle.gtfs_rows.specs.Trips.{left_at, reached_at}
+use Rattle.gtfs_stop_times.specs.RowTimes.{left_at, reached_at}
 use Rattle.gtfs_stop_times.specs.declared.stop_row.StopRow.{StopRow}
 use Rattle.gtfs_times.specs.Filling.{Placed, passed_between, time_between, timed_after, timed_before}
 use Rattle.gtfs_times.specs.Spans.{AreNeighbours, HaveNone, IsSpanAt}

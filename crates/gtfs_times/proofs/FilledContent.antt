@@ -21,7 +21,8 @@ use Rattle.gtfs_rows.specs.Rows.{StopRow, Transfer, Trip}
 use Rattle.gtfs_field.proofs.ListFacts.{any_mapped}
 use Rattle.gtfs_rows.specs.NamedRows.{stop_row_named}
 use Rattle.gtfs_rows.specs.Sound.{IsSound, has_ends, has_id, if_given, is_sound_transfer, is_stop_of}
-use Rattle.gtfs_rows.specs.Trips.{left_at, stop_rows_by_trip}
+use Rattle.gtfs_rows.specs.Trips.{stop_rows_by_trip}
+use Rattle.gtfs_stop_times.specs.RowTimes.{left_at}
 use Rattle.gtfs_rows.specs.Views.{IsSoundParts, content_of_parts, stop_time_names_rows}
 use Rattle.gtfs_rows.specs.declared.parts.Parts.{Parts}
 use Rattle.gtfs_stop_times.specs.declared.stop_row.StopRow.{StopRow as StopTime}

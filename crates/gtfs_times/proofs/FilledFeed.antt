@@ -19,7 +19,8 @@ use Rattle.gtfs_rows.specs.Order.{Ascends}
 use Rattle.gtfs_rows.specs.Rows.{StopRow, Trip}
 use Rattle.gtfs_rows.specs.Runs.{is_timed}
 use Rattle.gtfs_rows.specs.Sound.{IsInOrder, has_id, is_sound_in, is_sound_period, is_sound_stop_row, is_sound_trip}
-use Rattle.gtfs_rows.specs.Trips.{AreStopTimes, frequencies_by_trip, left_at, stop_rows_by_trip}
+use Rattle.gtfs_rows.specs.Trips.{AreStopTimes, frequencies_by_trip, stop_rows_by_trip}
+use Rattle.gtfs_stop_times.specs.RowTimes.{left_at}
 use Rattle.gtfs_rows.specs.Views.{IsSoundParts, content_of_parts, stop_row_of, trip_of, trips_of}
 use Rattle.gtfs_rows.specs.declared.frequency.Frequency.{Frequency as PeriodRow}
 use Rattle.gtfs_rows.specs.declared.parts.Parts.{Parts}

@@ -1,6 +1,6 @@
 -- The nearest stop times with times around an index of a trip's stop times: what is known while they are filled.
 use Rattle.std.specs.Prelude.{◌≡◌, ◌<◌, ◌≤◌, ◌⊎◌, ℕ, List, Option, Some, None, true, false, is_some, length, slice_index_or}
-use Rattle.gtfs_rows.specs.Trips.{left_at}
+use Rattle.gtfs_stop_times.specs.RowTimes.{left_at}
 use Rattle.gtfs_stop_times.specs.declared.stop_row.StopRow.{StopRow}
 use Rattle.gtfs_times.specs.declared.span.Span.{Span}
 

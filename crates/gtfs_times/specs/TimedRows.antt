@@ -3,7 +3,8 @@
 use Rattle.std.specs.Prelude.{ℕ, Bool, not, true, false, List, [], map, Option, is_some, if◌then◌else◌}
 use Rattle.std.specs.List.{enumerate_from, flat_map}
 use Rattle.gtfs_rows.specs.NamedRows.{stop_row_named}
-use Rattle.gtfs_rows.specs.Trips.{left_at, stop_rows_by_trip}
+use Rattle.gtfs_rows.specs.Trips.{stop_rows_by_trip}
+use Rattle.gtfs_stop_times.specs.RowTimes.{left_at}
 use Rattle.gtfs_rows.specs.declared.parts.Parts.{Parts}
 use Rattle.gtfs_stop_times.specs.declared.stop_row.StopRow.{StopRow}
 use Rattle.gtfs_times.specs.Filling.{time_at}

@@ -2,12 +2,12 @@
 
 ghost use Rattle.std.specs.Prelude.{◌≡◌, ◌≤◌, ◌<◌, ◌+◌, ◌-◌, ◌*◌, ◌/◌, ◌&&◌, IfOk, false, length, slice_index_or, unwrap_or};
 ghost use Rattle.std.specs.List.{list_any};
-ghost use Rattle.gtfs_rows.specs.Trips.{left_at, reached_at};
+ghost use Rattle.gtfs_stop_times.specs.RowTimes.{left_at, reached_at};
 ghost use Rattle.gtfs_stop_times.specs.declared.stop_row.StopRow.{StopRow as StopTime};
 ghost use Rattle.gtfs_times.specs.Spans.{AreNeighbours, IsSpanAt};
 ghost use Rattle.gtfs_times.specs.TimedRows.{filled_stop_time, filled_stop_times, is_interpolated, lacks_time, timed_stop_times};
 
-use crate::span::{Span, is_timed, span_after};
+use crate::span::{Span, span_after};
 use crate::times::Times;
 use gtfs_field::{Clock, OutOfMemory};
 use gtfs_rows::{OptionalClock, StopRow};
@@ -56,7 +56,7 @@ pub fn is_to_fill(rows: &[StopRow], times: Times) -> bool
 fn has_untimed(rows: &[StopRow]) -> bool
     ensures { result ≡ list_any lacks_time rows.now }
 {
-    rows.iter().any(|row| !is_timed(row))
+    rows.iter().any(|row| !row.is_timed())
 }
 
 // The stop time at an index, filled, given the span of the index after it.
@@ -66,7 +66,7 @@ fn filled_row(rows: &[StopRow], span: Option<Span>, at: usize) -> StopRow
     ensures { (d : StopTime) → result ≡ filled_stop_time rows.now (at, slice_index_or rows.now at d) }
 {
     let row = rows[at];
-    if is_timed(&row) {
+    if row.is_timed() {
         return row;
     }
     match span {
@@ -116,10 +116,7 @@ fn left(row: &StopRow) -> u32
     ensures value { result ≡ unwrap_or (left_at row.now) 0 }
     ensures bound { result ≤ 7_199_999 }
 {
-    row.departure_time
-        .get()
-        .or(row.arrival_time.get())
-        .map_or(0, |clock| clock.seconds())
+    row.departs().map_or(0, |clock| clock.seconds())
 }
 
 // When a vehicle comes, 0 where the stop time has no time.
@@ -127,8 +124,5 @@ fn reached(row: &StopRow) -> u32
     ensures value { result ≡ unwrap_or (reached_at row.now) 0 }
     ensures bound { result ≤ 7_199_999 }
 {
-    row.arrival_time
-        .get()
-        .or(row.departure_time.get())
-        .map_or(0, |clock| clock.seconds())
+    row.arrives().map_or(0, |clock| clock.seconds())
 }

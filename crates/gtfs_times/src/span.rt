@@ -1,7 +1,7 @@
 //! The nearest stop times with times around an index.
 
 ghost use Rattle.std.specs.Prelude.{◌≡◌, ◌≤◌, ◌<◌, ◌+◌, true, is_some, length, slice_index_or};
-ghost use Rattle.gtfs_rows.specs.Trips.{left_at};
+ghost use Rattle.gtfs_stop_times.specs.RowTimes.{left_at};
 ghost use Rattle.gtfs_stop_times.specs.declared.stop_row.StopRow.{StopRow as StopTime};
 ghost use Rattle.gtfs_times.specs.Spans.{HaveNone, IsSpanAt};
 
@@ -14,13 +14,6 @@ pub(crate) struct Span {
     pub(crate) after: usize,
 }
 
-// Whether a stop time has a time.
-pub(crate) fn is_timed(row: &StopRow) -> bool
-    ensures { result ≡ is_some (left_at row.now) }
-{
-    row.departure_time.get().is_some() || row.arrival_time.get().is_some()
-}
-
 // The first stop time from an index on that has a time, or the end.
 fn next_timed(rows: &[StopRow], from: usize) -> usize
     requires within { from ≤ length rows.now }
@@ -31,7 +24,7 @@ fn next_timed(rows: &[StopRow], from: usize) -> usize
         → is_some (left_at (slice_index_or rows.now result d)) ≡ true }
 {
     let mut next = from;
-    while next < rows.len() && !is_timed(&rows[next]) {
+    while next < rows.len() && !rows[next].is_timed() {
         next += 1;
     }
     next
@@ -44,7 +37,7 @@ pub(crate) fn span_after(rows: &[StopRow], span: Option<Span>, at: usize) -> Opt
     requires within { at < length rows.now }
     ensures { IsSpanAt rows.now result (at + 1) }
 {
-    if is_timed(&rows[at]) {
+    if rows[at].is_timed() {
         span_from(rows, at)
     } else {
         span

@@ -17,7 +17,7 @@ use Rattle.gtfs_trip_rules.specs.declared.stop_times.reading.Reading.TheVariants
 use Rattle.gtfs_stop_times.specs.declared.choices.Timepoint.{Timepoint}
 use Rattle.gtfs_stop_times.specs.declared.choices.DropOffType.TheVariants as drop_off
 use Rattle.gtfs_stop_times.specs.declared.choices.PickupType.TheVariants as pickup
-use Rattle.gtfs_stop_times.specs.declared.stop_time.Times.{Times}
+use Rattle.gtfs_stop_times.specs.declared.stop_time.ReadTimes.{ReadTimes}
 use Rattle.gtfs_trip_rules.specs.Kept.{Keeps, KeepsRow, named_stop_number}
 use Rattle.gtfs_stop_times.specs.Choices.{drop_off_code, pickup_code, timepoint_code}
 use Rattle.gtfs_trip_rules.specs.KeptRow.{kept_row, times_of}
@@ -46,7 +46,7 @@ abbrev either : Option Value → Bool → Option Value → Bool → Option ℤ
 either v empty w none = if clear v empty && clear w none then option_or (option_and_then as_amount v) (option_and_then as_amount w) else None
 
 -- how the times of a row with a sequence stand
-abbrev times_read : Reading ℕ → Reading ℕ → Times
+abbrev times_read : Reading ℕ → Reading ℕ → ReadTimes
 times_read a b = times_of true (is_fault a || is_fault b)
 
 reached : (a b : Reading ℕ) → option_map pos (if are_clear (times_read a b) then option_or (value_in a) (value_in b) else None) ≡ either (value_of a) (is_blank a) (value_of b) (is_blank b)
@@ -107,7 +107,7 @@ exactness t (reading.Value e) read whole = ap (option_and_then as_amount) read.v
 -- ---- a row
 
 -- a row whose times stand so
-abbrev row_of : Times → Option ℕ → Option ℕ → ℕ → List ℕ → ℤ → TripStopTime
+abbrev row_of : ReadTimes → Option ℕ → Option ℕ → ℕ → List ℕ → ℤ → TripStopTime
 row_of w a b row trip x = record {
   trip_id = trip;
   sequence = x;

@@ -6,12 +6,12 @@ use Rattle.gtfs_stop_times.specs.declared.choices.PickupType.TheVariants as pick
 use Rattle.gtfs_stop_times.specs.declared.stop_row.StopRow.{StopRow}
 use Rattle.gtfs_trip_rules.specs.declared.stop_times.columns.ReadStopTime.{ReadStopTime}
 use Rattle.gtfs_stop_times.specs.declared.stop_time.StopTime.{StopTime}
-use Rattle.gtfs_stop_times.specs.declared.stop_time.Times.{Times}
-use Rattle.gtfs_stop_times.specs.declared.stop_time.Times.TheVariants as times
+use Rattle.gtfs_stop_times.specs.declared.stop_time.ReadTimes.{ReadTimes}
+use Rattle.gtfs_stop_times.specs.declared.stop_time.ReadTimes.TheVariants as times
 use Rattle.gtfs_trip_rules.specs.Readings.{is_fault, value_in}
 
 -- how the times of a row stand that has a sequence or none, and of which one has a fault or none
-abbrev pub times_of : Bool → Bool → Times
+abbrev pub times_of : Bool → Bool → ReadTimes
 times_of has_sequence has_fault = if has_sequence then (if has_fault then times.Unclear else times.Clear) else times.Unplaced
 
 -- what a row says, its stop by its number; an empty choice means that all is as scheduled

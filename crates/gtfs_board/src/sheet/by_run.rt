@@ -11,7 +11,7 @@ ghost use Rattle.gtfs_times.specs.declared.times.Times.TheVariants.{Interpolated
 ghost use Rattle.gtfs_board.specs.SheetSteps.{IsShownAlong, KeepTimes, column_times, times_of_column};
 ghost use Rattle.gtfs_board.specs.Timetable.{row_at, time_passed};
 
-use crate::sheet::columns::Column;
+use crate::sheet::columns::RunColumn;
 use crate::sheet::times::time_among;
 use crate::sheet::turning::turned;
 use gtfs_field::{Clock, List, OutOfMemory};
@@ -25,7 +25,7 @@ pub(super) fn filled_times(
     alloc: Global,
     feed: &Feed,
     stop_count: usize,
-    columns: &[Column],
+    columns: &[RunColumn],
 ) -> Result<Vec<List<Option<Clock>>>, OutOfMemory>
     requires { All (IsShownAlong feed.now stop_count) columns.now }
     ensures { IfOk result (λ lines. lines.items
@@ -41,7 +41,7 @@ fn times_by_run(
     alloc: Global,
     feed: &Feed,
     stop_count: usize,
-    columns: &[Column],
+    columns: &[RunColumn],
 ) -> Result<Vec<Vec<Option<Clock>>>, OutOfMemory>
     requires { All (IsShownAlong feed.now stop_count) columns.now }
     ensures { IfOk result (λ runs. map (λ run. run.items) runs.items
@@ -60,7 +60,7 @@ fn times_of_run(
     alloc: Global,
     feed: &Feed,
     stop_count: usize,
-    column: Column,
+    column: RunColumn,
 ) -> Result<Vec<Option<Clock>>, OutOfMemory>
     requires { IsShownAlong feed.now stop_count column }
     ensures { IfOk result (λ times. times.items

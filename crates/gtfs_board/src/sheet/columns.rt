@@ -1,14 +1,15 @@
 //! The columns of a sheet: the runs of a pattern's trips on a day.
 ghost use Rattle.std.specs.Prelude.{◌≡◌, ◌<◌, ◌+◌, ◌==◌, ◌&&◌, All, IfOk, OnOk, cond, length, unwrap_or};
 ghost use Rattle.std.specs.List.Sorted.{IsSorted};
-ghost use Rattle.gtfs_rows.specs.Trips.{ArePeriods, left_at};
+ghost use Rattle.gtfs_rows.specs.Trips.{ArePeriods};
+ghost use Rattle.gtfs_stop_times.specs.RowTimes.{left_at};
 ghost use Rattle.gtfs_rows.specs.Views.{frequency_of, trip_of};
 ghost use Rattle.gtfs_rows.specs.declared.parts.Parts.{Parts};
 ghost use Rattle.gtfs_rows.specs.declared.trip.Trip.{Trip};
 ghost use Rattle.gtfs_runs.specs.Counts.{tally};
 ghost use Rattle.gtfs_rows.specs.Runs.{is_run, starts_run};
 ghost use Rattle.gtfs_board.specs.SheetSteps.{HasRow, column_cmp, is_column_of, is_run_on, is_same_column};
-ghost use Rattle.gtfs_board.specs.declared.sheet.columns.Column.{Column as ColumnValue};
+ghost use Rattle.gtfs_board.specs.declared.sheet.columns.RunColumn.{RunColumn as ColumnValue};
 
 use gtfs_field::{Clock, Day, OutOfMemory};
 use gtfs_rows::{Frequency, StopRow, TripNo};
@@ -18,7 +19,7 @@ use std::alloc::Global;
 // A run of a trip. The order of the fields is that of the runs of a sheet:
 // trips are numbered by the bytes of their ids.
 #[derive(Clone, Copy, PartialEq, Eq, PartialOrd, Ord)]
-pub(super) struct Column {
+pub(super) struct RunColumn {
     // The second of the service day at which the run starts.
     pub start: u32,
     pub trip: TripNo,
@@ -30,7 +31,7 @@ pub(super) fn columns(
     feed: &Feed,
     day: Day,
     trips: &[TripNo],
-) -> Result<Vec<Column>, OutOfMemory>
+) -> Result<Vec<RunColumn>, OutOfMemory>
     requires { All (HasRow feed.now) trips.now }
     ensures told { IfOk result (λ found. (c : ColumnValue) → tally (is_same_column c) found.items
         ≡ tally (is_column_of feed.now day c) trips.now) }
@@ -49,7 +50,7 @@ fn push_trip(
     feed: &Feed,
     day: Day,
     trip: TripNo,
-    found: &mut Vec<Column>,
+    found: &mut Vec<RunColumn>,
 ) -> Result<(), OutOfMemory>
     requires { HasRow feed.now trip }
     ensures { OnOk result ((c : ColumnValue) → tally (is_same_column c) found.new.items
@@ -73,7 +74,7 @@ fn push_runs(
     trip: TripNo,
     rows: &[StopRow],
     periods: &[Frequency],
-    found: &mut Vec<Column>,
+    found: &mut Vec<RunColumn>,
 ) -> Result<(), OutOfMemory>
     requires filled { 0 < length rows.now }
     requires moves { All (λ f. 0 < f.headway_secs) periods.now }
@@ -84,7 +85,7 @@ fn push_runs(
 {
     if periods.is_empty() {
         let start = seconds_left(&rows[0]);
-        found.push(Column { start, trip })?;
+        found.push(RunColumn { start, trip })?;
         return Ok(());
     }
     for period in periods {
@@ -94,7 +95,11 @@ fn push_runs(
 }
 
 // Adds the runs of a trip that a period starts.
-fn push_period(period: &Frequency, trip: TripNo, found: &mut Vec<Column>) -> Result<(), OutOfMemory>
+fn push_period(
+    period: &Frequency,
+    trip: TripNo,
+    found: &mut Vec<RunColumn>,
+) -> Result<(), OutOfMemory>
     requires { 0 < period.now.headway_secs }
     ensures { OnOk result ((c : ColumnValue) → tally (is_same_column c) found.new.items
         ≡ tally (is_same_column c) found.old.items
@@ -103,7 +108,7 @@ fn push_period(period: &Frequency, trip: TripNo, found: &mut Vec<Column>) -> Res
     let end = period.end_time.seconds();
     let mut start = period.start_time.seconds();
     while start < end {
-        found.push(Column { start, trip })?;
+        found.push(RunColumn { start, trip })?;
         start = start.saturating_add(period.headway_secs);
     }
     Ok(())
@@ -114,15 +119,8 @@ pub(super) fn seconds_left(row: &StopRow) -> u32
     ensures value { result ≡ unwrap_or (left_at row.now) 0 }
     ensures bound { result < 7_200_000 }
 {
-    match leaves(row) {
+    match row.departs() {
         Some(time) => time.seconds(),
         None => 0,
     }
-}
-
-// When a vehicle leaves: its departure time, or where there is none its arrival time.
-pub(super) fn leaves(row: &StopRow) -> Option<Clock>
-    ensures { result ≡ left_at row.now }
-{
-    row.departure_time.get().or(row.arrival_time.get())
 }

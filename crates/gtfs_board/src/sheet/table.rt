@@ -9,7 +9,7 @@ ghost use Rattle.gtfs_board.specs.Timetable.{is_route, sheets};
 ghost use Rattle.gtfs_times.specs.Filling.{timed};
 ghost use Rattle.gtfs_times.specs.TimedRows.{timed_parts};
 
-use crate::sheet::columns::{Column, columns};
+use crate::sheet::columns::{RunColumn, columns};
 use crate::sheet::times::sheet_times;
 use crate::sheet::{Sheet, TableFault};
 use crate::showing::{stop_id, trip_id};
@@ -138,7 +138,7 @@ fn sheet_of<'a>(
     route: &'a str,
     day: Day,
     pattern: &Pattern,
-    columns: &[Column],
+    columns: &[RunColumn],
     times: Times,
 ) -> Result<Sheet<'a>, OutOfMemory>
     requires stops { All (λ s. s.0 < length feed.now.stops) pattern.now.stops }
@@ -180,7 +180,7 @@ fn stop_texts<'a>(
 fn named<'a>(
     alloc: Global,
     feed: &'a Feed,
-    columns: &[Column],
+    columns: &[RunColumn],
 ) -> Result<Vec<(u32, &'a str)>, OutOfMemory>
     requires { All (λ c. c.trip.0 < length feed.now.trips) columns.now }
     ensures { IfOk result (λ runs. map (λ run. (run.0, run.1.now)) runs.items

@@ -1,7 +1,7 @@
 //! The times of a sheet: when each run passes each stop time of its trip.
 ghost use Rattle.std.specs.Prelude.{◌≡◌, ◌<◌, ◌≤◌, ◌+◌, All, IfOk, List, true, is_some, length, map, option_and_then, slice_index_or, unwrap_or};
 ghost use Rattle.gtfs_rows.specs.Views.{content_of_parts};
-ghost use Rattle.gtfs_rows.specs.Trips.{left_at};
+ghost use Rattle.gtfs_stop_times.specs.RowTimes.{left_at};
 ghost use Rattle.gtfs_rows.specs.Views.{stop_row_of, trip_of};
 ghost use Rattle.gtfs_rows.specs.declared.frequency.Frequency.{Frequency as PeriodRow};
 ghost use Rattle.gtfs_rows.specs.declared.parts.Parts.{Parts};
@@ -13,7 +13,7 @@ ghost use Rattle.gtfs_board.specs.Timetable.{row_at, time_passed};
 ghost use Rattle.gtfs_times.specs.TimedRows.{timed_parts};
 
 use crate::sheet::by_run::filled_times;
-use crate::sheet::columns::{Column, leaves, seconds_left};
+use crate::sheet::columns::{RunColumn, seconds_left};
 use gtfs_field::{Clock, List, OutOfMemory};
 use gtfs_rows::StopRow;
 use gtfs_runs::{Feed, Times};
@@ -24,7 +24,7 @@ pub(super) fn sheet_times(
     alloc: Global,
     feed: &Feed,
     stop_count: usize,
-    columns: &[Column],
+    columns: &[RunColumn],
     times: Times,
 ) -> Result<Vec<List<Option<Clock>>>, OutOfMemory>
     requires { All (IsShownAlong feed.now stop_count) columns.now }
@@ -43,7 +43,7 @@ fn given_times(
     alloc: Global,
     feed: &Feed,
     stop_count: usize,
-    columns: &[Column],
+    columns: &[RunColumn],
 ) -> Result<Vec<List<Option<Clock>>>, OutOfMemory>
     requires { All (IsShownAlong feed.now stop_count) columns.now }
     ensures { IfOk result (λ lines. lines.items
@@ -61,7 +61,7 @@ fn times_at(
     alloc: Global,
     feed: &Feed,
     position: usize,
-    columns: &[Column],
+    columns: &[RunColumn],
 ) -> Result<List<Option<Clock>>, OutOfMemory>
     requires { All (IsShownAlong feed.now (position + 1)) columns.now }
     ensures { IfOk result (λ times. times
@@ -76,7 +76,7 @@ fn times_at(
 
 // When a run passes the stop time of this position among those of its trip,
 // None where that is untimed.
-fn time_at(feed: &Feed, column: Column, position: usize) -> Option<Clock>
+fn time_at(feed: &Feed, column: RunColumn, position: usize) -> Option<Clock>
     requires { IsShownAlong feed.now (position + 1) column }
     ensures { result ≡ time_of_column (content_of_parts feed.now) position column }
 {
@@ -98,7 +98,7 @@ pub(super) fn time_among(rows: &[StopRow], start: u32, position: usize) -> Optio
         ≡ option_and_then (time_passed (trip_of p t rows.now fs) start)
         (row_at (trip_of p t rows.now fs) position) }
 {
-    match leaves(&rows[position]) {
+    match rows[position].departs() {
         Some(_) => Some(passes(rows, start, position)),
         None => None,
     }

@@ -2,5 +2,5 @@
 mod moments;
 mod times;
 
-pub(crate) use crate::commands::options::moments::{Moment, read_day_if_given, read_moment};
+pub(crate) use crate::commands::options::moments::{GivenMoment, read_day_if_given, read_moment};
 pub(crate) use crate::commands::options::times::read_times;

@@ -46,7 +46,7 @@ impl Headsigns {
     ) -> Result<Headsigns, OutOfMemory>
         ensures { IfOk result (AreHeadsigns sides.now) }
     {
-        let mut found = Found::new(alloc, random);
+        let mut found = FoundHeadsigns::new(alloc, random);
         let of_a = found.numbers(sides.a.parts().headsigns.as_slice())?;
         let of_b = found.numbers(sides.b.parts().headsigns.as_slice())?;
         let texts = found.into_list()?;
@@ -78,12 +78,12 @@ impl Headsigns {
 
 // The headsigns so far, in the order in which they were met.
 #[derive(Drop)]
-struct Found {
+struct FoundHeadsigns {
     alloc: Global,
     texts: IndexSet<String, RandomState>,
 }
 
-impl Model for Found {
+impl Model for FoundHeadsigns {
     ghost use Rattle.std.specs.Prelude.{List as Sequence, ℕ, map, string_bytes};
 
     ghost Value = { Sequence (Sequence ℕ) };
@@ -91,11 +91,11 @@ impl Model for Found {
     ghost view = { λ f. map string_bytes f.texts.keys };
 }
 
-impl Found {
-    fn new(alloc: Global, random: RandomState) -> Found
+impl FoundHeadsigns {
+    fn new(alloc: Global, random: RandomState) -> FoundHeadsigns
         ensures { result ≡ [] }
     {
-        Found {
+        FoundHeadsigns {
             alloc,
             texts: IndexSet::with_hasher(alloc, random),
         }
@@ -121,7 +121,7 @@ impl Found {
     {
         let text = String::from_str(self.alloc, headsign)?;
         let (index, _) = self.texts.insert_full(text)?;
-        let number = headsign_at(index)?;
+        let number = OptionalHeadsign::at_index(index)?;
         Ok(number)
     }
 
@@ -130,21 +130,11 @@ impl Found {
         ensures texts { IfOk result (λ texts. texts ≡ self) }
         ensures distinct { OnOk result (AreDistinct self) }
     {
-        let Found { alloc, texts } = self;
+        let FoundHeadsigns { alloc, texts } = self;
         let mut list = Vec::with_capacity(alloc, texts.len())?;
         for text in texts {
             list.push(Text::new(text))?;
         }
         Ok(List::new(list))
-    }
-}
-
-// The number of a headsign by its index. No number is left for more than 4,294,967,295 headsigns.
-fn headsign_at(index: usize) -> Result<OptionalHeadsign, OutOfMemory>
-    ensures { IfOk result (λ n. n ≡ Some index) }
-{
-    match u32::try_from(index) {
-        Ok(number) if number < u32::MAX => Ok(OptionalHeadsign::new(Some(HeadsignNo(number)))),
-        _ => Err(OutOfMemory),
     }
 }

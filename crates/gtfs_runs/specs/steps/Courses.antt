@@ -10,7 +10,7 @@ use Rattle.gtfs_runs.specs.Kinds.{course_at, is_of_list}
 use Rattle.gtfs_runs.specs.Lanes.{Course}
 use Rattle.gtfs_runs.specs.Order.{event_cmp}
 use Rattle.gtfs_runs.specs.declared.event.Event.{Event}
-use Rattle.gtfs_runs.specs.declared.stop_lanes.listed.Listed.{Listed}
+use Rattle.gtfs_runs.specs.declared.stop_lanes.listed.ListedEvent.{ListedEvent}
 use Rattle.gtfs_runs.specs.steps.Groups.{trip_group}
 
 -- the service, the position of a stop time and the stops of a trip
@@ -24,18 +24,18 @@ pub record Stopping : Type 0 where
   pub course : CourseNo
   pub event : Event
 
-abbrev pub event_of : Listed → Event
+abbrev pub event_of : ListedEvent → Event
 event_of x = record { at = x.at; trip = record { 0 = x.trip }; run = x.run; seq = x.seq; row = x.row }
 
 -- of a trip of these parts
-abbrev pub stopping_of : Parts → Listed → Stopping
+abbrev pub stopping_of : Parts → ListedEvent → Stopping
 stopping_of p x = record {
   course = record { service = (trip_group p x.trip).0; row = x.row; stops = (trip_group p x.trip).1 };
   event = event_of x;
 }
 
 -- each has the number of the service of its trip
-abbrev pub AreServed : Parts → List Listed → Type 0
+abbrev pub AreServed : Parts → List ListedEvent → Type 0
 AreServed p xs = All (λ x. (trip_group p x.trip).0 ≡ x.service) xs
 
 -- ---- order

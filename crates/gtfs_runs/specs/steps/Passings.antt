@@ -1,7 +1,8 @@
 -- When a trip passes the stop times at which riders can leave a place: so many seconds after each of its runs starts.
 use Rattle.std.specs.Prelude.{◌≡◌, ◌≤◌, ◌<◌, ℕ, ◌+◌, ◌-◌, ◌&&◌, All, AllPairs, Bool, true, false, List, [], ◌∷◌, filter, is_some, map, slice_get, slice_index_or, Some, unwrap_or}
 use Rattle.std.specs.List.{enumerate_from}
-use Rattle.gtfs_rows.specs.Trips.{left_at, stop_rows_by_trip}
+use Rattle.gtfs_rows.specs.Trips.{stop_rows_by_trip}
+use Rattle.gtfs_stop_times.specs.RowTimes.{left_at}
 use Rattle.gtfs_rows.specs.Views.{content_of_parts, stop_ids, stop_row_of, text_of_number, trip_of}
 use Rattle.gtfs_rows.specs.declared.frequency.Frequency.{Frequency}
 use Rattle.gtfs_rows.specs.declared.parts.Parts.{Parts}

@@ -10,7 +10,7 @@ use Rattle.gtfs_runs.specs.Kinds.{IsPeriodLane}
 use Rattle.gtfs_runs.specs.StopLanes.{LaneValue}
 use Rattle.gtfs_runs.specs.declared.event.Event.{Event}
 use Rattle.gtfs_runs.specs.declared.stop_index.DepartureRow.{DepartureRow}
-use Rattle.gtfs_runs.specs.declared.stop_lanes.listed.Listed.{Listed}
+use Rattle.gtfs_runs.specs.declared.stop_lanes.listed.ListedEvent.{ListedEvent}
 use Rattle.gtfs_runs.specs.declared.stop_lanes.passing.Passing.{Passing}
 use Rattle.gtfs_runs.specs.steps.Courses.{AreServed, Stopping, stopping_of}
 use Rattle.gtfs_runs.specs.steps.Finds.{stopping_at, times_passed_in, times_told}
@@ -55,7 +55,7 @@ sum_over f [] = 0
 sum_over f (x ∷ xs) = f x + sum_over f xs
 
 -- what these rows of a feed add to the events and the lanes
-pub record AreAdded (p : Parts) (rows : List DepartureRow) (old new : List Listed) (before after : List LaneValue) : Type 0 where
+pub record AreAdded (p : Parts) (rows : List DepartureRow) (old new : List ListedEvent) (before after : List LaneValue) : Type 0 where
   pub events : map (stopping_of p) new ≡ map (stopping_of p) old ++ map (row_stopping p) (filter (runs_once p) rows)
   pub services : AreServed p old → AreServed p new
   pub told : (k : ℕ) (e : Event) → times_told k e after ≡ times_told k e before + sum_over (row_told p k e) rows

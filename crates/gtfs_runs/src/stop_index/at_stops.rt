@@ -21,6 +21,7 @@ use crate::stop_index::rooms::rooms;
 use gtfs_feed::Feed;
 use gtfs_field::OutOfMemory;
 use gtfs_rows::{StopRow, TripNo};
+use gtfs_stop_times::small_number;
 use gtfs_times::{Times, filled, is_to_fill};
 use std::alloc::Global;
 
@@ -170,15 +171,4 @@ pub(crate) fn row_at(
 {
     let trip = small_number(trip.0)?;
     Ok(DepartureRow::new(trip, rank, small_number(position)?, stop_time))
-}
-
-// A number as the index keeps it. No number is left for more than 4,294,967,296 stops, services,
-// trips or stop times of a trip.
-pub(crate) fn small_number(number: usize) -> Result<u32, OutOfMemory>
-    ensures { IfOk result (λ small. small ≡ number) }
-{
-    match u32::try_from(number) {
-        Ok(small) => Ok(small),
-        Err(_) => Err(OutOfMemory),
-    }
 }

@@ -4,10 +4,10 @@ ghost use Rattle.gtfs_schema.specs.Values.{if_there};
 ghost use Rattle.gtfs_runs.specs.Counts.{tally};
 ghost use Rattle.gtfs_runs.specs.steps.Children.{AreChildren, below_parent, child_cmp, is_child, is_pair};
 
-use crate::stop_index::at_stops::small_number;
 use gtfs_feed::Feed;
 use gtfs_field::OutOfMemory;
 use gtfs_rows::StopNo;
+use gtfs_stop_times::small_number;
 use std::alloc::Global;
 use std::marker::Model;
 

@@ -10,11 +10,10 @@ ghost use Rattle.gtfs_runs.specs.steps.Ranked.{AreIndexedTrips};
 
 use crate::departure_row::trip_start;
 use crate::grouped_trip::{GroupedTrip, group_order};
-use crate::stop_index::at_stops::small_number;
 use gtfs_feed::Feed;
 use gtfs_field::OutOfMemory;
 use gtfs_rows::TripNo;
-use gtfs_stop_times::StopLists;
+use gtfs_stop_times::{StopLists, small_number};
 use std::alloc::Global;
 
 // What is kept of a trip, so that its rows need not look at it.

@@ -19,7 +19,7 @@ ghost use Rattle.gtfs_times.specs.TimedRows.{timed_parts};
 use crate::place::Place;
 use crate::step_lane::StepLane;
 use crate::stop_index::{DepartureRow, IndexedTrip};
-use crate::stop_lanes::listed::Listed;
+use crate::stop_lanes::listed::ListedEvent;
 use crate::stop_lanes::passing::Passing;
 use crate::stop_lanes::place_rows::place_rows;
 use gtfs_feed::Feed;
@@ -30,21 +30,21 @@ use std::alloc::Global;
 
 // What leaves the place of a stop.
 #[derive(Drop)]
-pub(crate) struct Found {
+pub(crate) struct FoundEvents {
     // The events of trips without frequencies.
-    pub(crate) listed: Vec<Listed>,
+    pub(crate) listed: Vec<ListedEvent>,
     // A lane for each row of frequencies.txt and each stop time of its trip there.
     pub(crate) periods: Vec<StepLane>,
 }
 
-impl Found {
+impl FoundEvents {
     // What leaves the place, of all trips.
     pub(crate) fn at_place(
         alloc: Global,
         feed: &Feed,
         place: &Place,
         times: Times,
-    ) -> Result<Found, OutOfMemory>
+    ) -> Result<FoundEvents, OutOfMemory>
         requires { length place.now ≡ length feed.now.stops }
         ensures found { IfOk result (λ found. (s : ℕ)
             → place.now ≡ members (content_of_parts feed.now) (text_of_number (stop_ids feed.now) s)
@@ -54,7 +54,7 @@ impl Found {
     {
         feed.soundness();
         let rows = place_rows(alloc, feed, place, times)?;
-        let mut found = Found {
+        let mut found = FoundEvents {
             listed: Vec::with_capacity(alloc, rows.len())?,
             periods: Vec::new(alloc),
         };
@@ -64,7 +64,7 @@ impl Found {
 }
 
 // Adds what leaves at these departure rows.
-fn add_rows(feed: &Feed, rows: &[DepartureRow], found: &mut Found) -> Result<(), OutOfMemory>
+fn add_rows(feed: &Feed, rows: &[DepartureRow], found: &mut FoundEvents) -> Result<(), OutOfMemory>
     requires { All (IsInside feed.now) rows.now }
     ensures { OnOk result (AreAdded feed.now rows.now
         found.old.listed.items found.new.listed.items
@@ -82,7 +82,7 @@ pub(crate) fn add_row(
     feed: &Feed,
     indexed: IndexedTrip,
     row: &DepartureRow,
-    found: &mut Found,
+    found: &mut FoundEvents,
 ) -> Result<(), OutOfMemory>
     requires row { IsInside feed.now row.now }
     requires service { indexed.service ≡ (trip_group feed.now row.now.trip).0 }
@@ -104,7 +104,7 @@ pub(crate) fn add_row(
     if !indexed.has_frequencies {
         found
             .listed
-            .push(Listed::of(trip, row.rank(), indexed, &passing)?)?;
+            .push(ListedEvent::of(trip, row.rank(), indexed, &passing)?)?;
         return Ok(());
     }
     let service = ServiceNo(indexed.service as usize);

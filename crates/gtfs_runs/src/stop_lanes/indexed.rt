@@ -10,7 +10,7 @@ ghost use Rattle.gtfs_runs.specs.steps.RowFinds.{AreAdded, IsInside};
 ghost use Rattle.gtfs_times.specs.TimedRows.{timed_parts};
 
 use crate::stop_index::{Child, DepartureRow, IndexedTrip, StopIndex, trip_at};
-use crate::stop_lanes::found::{Found, add_row};
+use crate::stop_lanes::found::{FoundEvents, add_row};
 use gtfs_feed::Feed;
 use gtfs_field::OutOfMemory;
 use gtfs_rows::StopNo;
@@ -21,7 +21,7 @@ pub(crate) fn found_in_index(
     alloc: Global,
     index: &StopIndex<'_>,
     stop: StopNo,
-) -> Result<Found, OutOfMemory>
+) -> Result<FoundEvents, OutOfMemory>
     requires { stop.0 < length index.now.feed.stops }
     ensures found { IfOk result (λ found. AreFound (timed_parts index.now.times index.now.feed)
         stop.0 (length index.now.feed.trips)
@@ -37,7 +37,7 @@ pub(crate) fn found_in_index(
     let rows = index.rows(stop);
     let children = index.children(stop);
     let trips = index.trips();
-    let mut found = Found {
+    let mut found = FoundEvents {
         listed: Vec::with_capacity(alloc, rows.len())?,
         periods: Vec::new(alloc),
     };
@@ -51,7 +51,7 @@ fn add_children(
     index: &StopIndex<'_>,
     trips: &[IndexedTrip],
     children: &[Child],
-    found: &mut Found,
+    found: &mut FoundEvents,
 ) -> Result<(), OutOfMemory>
     requires stops { All (λ x. x.stop < length index.now.feed.stops) children.now }
     requires rows { All (IsInside index.now.feed)
@@ -77,7 +77,7 @@ fn add_rows(
     feed: &Feed,
     trips: &[IndexedTrip],
     rows: &[DepartureRow],
-    found: &mut Found,
+    found: &mut FoundEvents,
 ) -> Result<(), OutOfMemory>
     requires ranked { All (IsRanked feed.now trips.now) rows.now }
     requires rows { All (IsInside feed.now) rows.now }

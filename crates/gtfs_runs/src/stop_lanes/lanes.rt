@@ -12,9 +12,9 @@ use crate::list_lane::ListLane;
 use crate::place::Place;
 use crate::step_lane::StepLane;
 use crate::stop_index::StopIndex;
-use crate::stop_lanes::found::Found;
+use crate::stop_lanes::found::FoundEvents;
 use crate::stop_lanes::indexed::found_in_index;
-use crate::stop_lanes::listed::{Listed, sorted};
+use crate::stop_lanes::listed::{ListedEvent, sorted};
 use crate::stop_lanes::lists::lists;
 use crate::stop_lanes::numbered::numbered;
 use gtfs_feed::Feed;
@@ -36,7 +36,7 @@ pub(crate) fn lanes_of_feed(
         (map list_value lanes.0.items) (map period_value lanes.1.items)) }
 {
     let place = Place::of_stop(alloc, feed, stop)?;
-    let found = Found::at_place(alloc, feed, &place, times)?;
+    let found = FoundEvents::at_place(alloc, feed, &place, times)?;
     let listed = numbered(alloc, feed, found.listed)?;
     lanes_of_events(alloc, feed, stop, times, listed, found.periods)
 }
@@ -65,7 +65,7 @@ fn lanes_of_events(
     feed: &Feed,
     stop: StopNo,
     times: Times,
-    listed: Vec<Listed>,
+    listed: Vec<ListedEvent>,
     periods: Vec<StepLane>,
 ) -> Result<(Vec<ListLane>, Vec<StepLane>), OutOfMemory>
     requires found { AreFound (timed_parts times feed.now) stop.0 (length feed.now.trips)

@@ -1,16 +1,17 @@
 ghost use Rattle.std.specs.Prelude.{◌≡◌, ◌≤◌, ◌<◌, All, IfOk, length, map, slice_index_or};
 ghost use Rattle.std.specs.List.Sorted.{IsPermutation, IsSorted};
 ghost use Rattle.gtfs_rows.specs.declared.parts.Parts.{Parts};
-ghost use Rattle.gtfs_runs.specs.declared.stop_lanes.listed.Listed.{Listed as ListedValue};
+ghost use Rattle.gtfs_runs.specs.declared.stop_lanes.listed.ListedEvent.{ListedEvent as ListedValue};
 ghost use Rattle.gtfs_runs.specs.steps.Courses.{event_of, is_same_course, stopping_cmp, stopping_of};
 ghost use Rattle.gtfs_runs.specs.steps.Numbers.{AreNumbered, IsNumbered, is_alike};
 ghost use Rattle.gtfs_runs.specs.steps.Passings.{passing_event};
 
 use crate::event::Event;
-use crate::stop_index::{IndexedTrip, small_number};
+use crate::stop_index::IndexedTrip;
 use crate::stop_lanes::passing::Passing;
 use gtfs_field::OutOfMemory;
 use gtfs_rows::{ServiceNo, TripNo};
+use gtfs_stop_times::small_number;
 use std::alloc::Global;
 
 // An event of a trip without frequencies.
@@ -20,7 +21,7 @@ use std::alloc::Global;
 // decides between those at one second. The service and the rank come last, where they decide
 // nothing: the events of a trip have one.
 #[derive(Clone, Copy, PartialEq, Eq, PartialOrd, Ord)]
-pub(crate) struct Listed {
+pub(crate) struct ListedEvent {
     // The number of the group, by which groups are compared; 0 until it is known.
     pub(crate) group: u32,
     row: u32,
@@ -34,14 +35,14 @@ pub(crate) struct Listed {
     rank: u32,
 }
 
-impl Listed {
+impl ListedEvent {
     // That of a trip of a rank at one of its stop times.
     pub(crate) fn of(
         trip: TripNo,
         rank: u32,
         indexed: IndexedTrip,
         passing: &Passing,
-    ) -> Result<Listed, OutOfMemory>
+    ) -> Result<ListedEvent, OutOfMemory>
         requires after { passing.now.after ≤ 3_599_999 }
         requires start { indexed.start ≤ 7_199_999 }
         ensures event { IfOk result (λ x. event_of x
@@ -49,7 +50,7 @@ impl Listed {
         ensures group { IfOk result (λ x. x.group ≡ indexed.group) }
         ensures service { IfOk result (λ x. x.service ≡ indexed.service) }
     {
-        Ok(Listed {
+        Ok(ListedEvent {
             group: indexed.group,
             row: small_number(passing.row)?,
             at: indexed.start + passing.after,
@@ -97,7 +98,10 @@ struct Ranked {
 }
 
 // The events by course and in each course in their order.
-pub(crate) fn sorted(alloc: Global, listed: Vec<Listed>) -> Result<Vec<Listed>, OutOfMemory>
+pub(crate) fn sorted(
+    alloc: Global,
+    listed: Vec<ListedEvent>,
+) -> Result<Vec<ListedEvent>, OutOfMemory>
     ensures same { IfOk result (λ found. IsPermutation listed.items found.items) }
     ensures in_order { IfOk result (λ found. (p : Parts) → AreNumbered p listed.items
         → IsSorted stopping_cmp (map (stopping_of p) found.items)) }
@@ -109,7 +113,7 @@ pub(crate) fn sorted(alloc: Global, listed: Vec<Listed>) -> Result<Vec<Listed>, 
 }
 
 // The events by the ranks of their trips. An index has those of one stop in that order.
-fn by_rank(alloc: Global, listed: Vec<Listed>) -> Result<Vec<Listed>, OutOfMemory>
+fn by_rank(alloc: Global, listed: Vec<ListedEvent>) -> Result<Vec<ListedEvent>, OutOfMemory>
     ensures { IfOk result (λ found. IsPermutation listed.items found.items) }
 {
     if listed.is_sorted_by_key(|event| event.rank) {
@@ -121,7 +125,7 @@ fn by_rank(alloc: Global, listed: Vec<Listed>) -> Result<Vec<Listed>, OutOfMemor
 
 // The places of these events, by the ranks of their trips: a place and a rank take eight bytes, and
 // are sorted in a fraction of the time that events take.
-fn places_by_rank(alloc: Global, listed: &[Listed]) -> Result<Vec<Ranked>, OutOfMemory>
+fn places_by_rank(alloc: Global, listed: &[ListedEvent]) -> Result<Vec<Ranked>, OutOfMemory>
     ensures within { IfOk result (λ places. All (λ x. x.at < length listed.now) places.items) }
     ensures same { IfOk result (λ places. (d : ListedValue)
         → IsPermutation listed.now (map (λ x. slice_index_or listed.now x.at d) places.items)) }
@@ -139,9 +143,9 @@ fn places_by_rank(alloc: Global, listed: &[Listed]) -> Result<Vec<Ranked>, OutOf
 // The events at these places.
 fn at_places(
     alloc: Global,
-    listed: &[Listed],
+    listed: &[ListedEvent],
     places: &[Ranked],
-) -> Result<Vec<Listed>, OutOfMemory>
+) -> Result<Vec<ListedEvent>, OutOfMemory>
     requires { All (λ x. x.at < length listed.now) places.now }
     ensures { IfOk result (λ found. (d : ListedValue)
         → found.items ≡ map (λ x. slice_index_or listed.now x.at d) places.now) }
@@ -154,7 +158,7 @@ fn at_places(
 }
 
 // Whether two events have one course.
-pub(crate) fn is_one_course(a: &Listed, b: &Listed) -> bool
+pub(crate) fn is_one_course(a: &ListedEvent, b: &ListedEvent) -> bool
     ensures numbers { result ≡ is_alike a.now b.now }
     ensures courses { (p : Parts) → IsNumbered p a.now b.now
         → result ≡ is_same_course (stopping_of p a.now).course (stopping_of p b.now).course }

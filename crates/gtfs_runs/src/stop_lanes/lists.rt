@@ -4,19 +4,19 @@ ghost use Rattle.gtfs_rows.specs.Views.{content_of_parts};
 ghost use Rattle.gtfs_rows.specs.declared.parts.Parts.{Parts};
 ghost use Rattle.gtfs_runs.specs.Kinds.{IsListLane};
 ghost use Rattle.gtfs_runs.specs.StopLanes.{events_of_service, list_value};
-ghost use Rattle.gtfs_runs.specs.declared.stop_lanes.listed.Listed.{Listed as ListedValue};
+ghost use Rattle.gtfs_runs.specs.declared.stop_lanes.listed.ListedEvent.{ListedEvent as ListedValue};
 ghost use Rattle.gtfs_runs.specs.steps.Numbers.{AreNumbered, is_alike, listed_cmp};
 ghost use Rattle.gtfs_runs.specs.steps.Courses.{AreServed, IsListed, event_of, how_many, is_same_course, stopping_events, stopping_of};
 
 use crate::event::Event;
 use crate::event_range::EventRange;
 use crate::list_lane::ListLane;
-use crate::stop_lanes::listed::{Listed, is_one_course};
+use crate::stop_lanes::listed::{ListedEvent, is_one_course};
 use gtfs_field::OutOfMemory;
 use std::alloc::Global;
 
 // A lane for each course of these events, which are sorted.
-pub(crate) fn lists(alloc: Global, listed: &[Listed]) -> Result<Vec<ListLane>, OutOfMemory>
+pub(crate) fn lists(alloc: Global, listed: &[ListedEvent]) -> Result<Vec<ListLane>, OutOfMemory>
     requires { Ascends listed_cmp listed.now }
     ensures told { IfOk result (λ lists. (p : Parts) (k : ℕ) → AreNumbered p listed.now
         → AreServed p listed.now → events_of_service k (map list_value lists.items)
@@ -44,7 +44,7 @@ pub(crate) fn lists(alloc: Global, listed: &[Listed]) -> Result<Vec<ListLane>, O
 // Adds the lane of the first course of these events, which are sorted, and stand among all from an
 // index on. Answers how many they are.
 fn add_list(
-    listed: &[Listed],
+    listed: &[ListedEvent],
     all: &EventRange,
     at: usize,
     lists: &mut Vec<ListLane>,
@@ -79,7 +79,7 @@ fn add_list(
 }
 
 // How many events at the beginning have the course of the first.
-fn course_len(listed: &[Listed]) -> usize
+fn course_len(listed: &[ListedEvent]) -> usize
     requires { 0 < length listed.now }
     ensures some { 0 < result }
     ensures within { result ≤ length listed.now }
@@ -101,7 +101,7 @@ fn course_len(listed: &[Listed]) -> usize
 }
 
 // The events of a list, in its order.
-fn events_of(alloc: Global, listed: &[Listed]) -> Result<Vec<Event>, OutOfMemory>
+fn events_of(alloc: Global, listed: &[ListedEvent]) -> Result<Vec<Event>, OutOfMemory>
     ensures { IfOk result (λ events. events.items ≡ map event_of listed.now) }
 {
     let mut events = Vec::with_capacity(alloc, listed.len())?;

@@ -2,19 +2,18 @@ ghost use Rattle.std.specs.Prelude.{◌≡◌, ◌≤◌, ◌<◌, ◌-◌, ◌=
 ghost use Rattle.std.specs.List.Sorted.{IsSorted};
 ghost use Rattle.gtfs_rows.specs.declared.parts.Parts.{Parts};
 ghost use Rattle.gtfs_runs.specs.Counts.{tally};
-ghost use Rattle.gtfs_runs.specs.declared.stop_lanes.listed.Listed.{Listed as ListedValue};
+ghost use Rattle.gtfs_runs.specs.declared.stop_lanes.listed.ListedEvent.{ListedEvent as ListedValue};
 ghost use Rattle.gtfs_runs.specs.steps.Courses.{AreServed, stopping_of};
 ghost use Rattle.gtfs_runs.specs.steps.Groups.{below, group_cmp, group_of, trip_group};
 ghost use Rattle.gtfs_runs.specs.steps.Numbers.{AreNumbered};
 
 use crate::departure_row::trip_start;
 use crate::grouped_trip::{GroupedTrip, by_group, group_order};
-use crate::stop_index::small_number;
-use crate::stop_lanes::listed::Listed;
+use crate::stop_lanes::listed::ListedEvent;
 use gtfs_feed::Feed;
 use gtfs_field::OutOfMemory;
 use gtfs_rows::TripNo;
-use gtfs_stop_times::StopLists;
+use gtfs_stop_times::{StopLists, small_number};
 use std::alloc::Global;
 
 // Numbers the groups of trips: how many of the trips that pass the place have lower ones.
@@ -23,8 +22,8 @@ use std::alloc::Global;
 pub(crate) fn numbered(
     alloc: Global,
     feed: &Feed,
-    listed: Vec<Listed>,
-) -> Result<Vec<Listed>, OutOfMemory>
+    listed: Vec<ListedEvent>,
+) -> Result<Vec<ListedEvent>, OutOfMemory>
     requires { All (λ x. x.trip < length feed.now.trips) listed.items }
     ensures same { IfOk result (λ found. (p : Parts) → map (stopping_of p) found.items
         ≡ map (stopping_of p) listed.items) }
@@ -41,7 +40,7 @@ pub(crate) fn numbered(
 fn trips_of(
     alloc: Global,
     feed: &Feed,
-    listed: &[Listed],
+    listed: &[ListedEvent],
 ) -> Result<(Vec<TripNo>, StopLists), OutOfMemory>
     requires { All (λ x. x.trip < length feed.now.trips) listed.now }
     ensures known { IfOk result (λ both. All (λ t. t.0 < length feed.now.trips) both.0.items) }
@@ -83,7 +82,7 @@ fn grouped_trips<'a>(
 }
 
 // Whether the event at this index is of the trip of the one before it.
-fn goes_on(listed: &[Listed], n: usize) -> bool
+fn goes_on(listed: &[ListedEvent], n: usize) -> bool
     requires { n < length listed.now }
     ensures before { result ≡ true → 0 < n }
     ensures trip { (d : ListedValue) → result ≡ true
@@ -97,8 +96,8 @@ fn with_groups(
     alloc: Global,
     feed: &Feed,
     trips: &[GroupedTrip<'_>],
-    mut listed: Vec<Listed>,
-) -> Result<Vec<Listed>, OutOfMemory>
+    mut listed: Vec<ListedEvent>,
+) -> Result<Vec<ListedEvent>, OutOfMemory>
     requires in_order { IsSorted (λ x y. group_cmp (group_of x) (group_of y)) trips.now }
     requires known { All (λ x. x.trip < length feed.now.trips) listed.items }
     ensures same { IfOk result (λ found. (p : Parts) → map (stopping_of p) found.items
@@ -120,7 +119,7 @@ fn group_at(
     alloc: Global,
     feed: &Feed,
     trips: &[GroupedTrip<'_>],
-    listed: &[Listed],
+    listed: &[ListedEvent],
     n: usize,
 ) -> Result<u32, OutOfMemory>
     requires in_order { IsSorted (λ x y. group_cmp (group_of x) (group_of y)) trips.now }

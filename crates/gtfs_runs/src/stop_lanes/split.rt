@@ -6,7 +6,6 @@ ghost use Rattle.gtfs_runs.specs.StopLanes.{LaneValue, filled_value, list_value}
 ghost use Rattle.gtfs_runs.specs.steps.Apart.{AreApart};
 ghost use Rattle.gtfs_times.specs.TimedRows.{is_interpolated, lacks_time};
 
-use crate::departure_row::departure;
 use crate::event::Event;
 use crate::filled_lane::FilledLane;
 use crate::list_lane::ListLane;
@@ -90,12 +89,5 @@ fn is_untimed_at(feed: &Feed, event: &Event) -> bool
         return false;
     }
     let rows = feed.trip_rows(event.trip);
-    event.row < rows.len() && lacks_time(&rows[event.row])
-}
-
-// Whether a stop time has neither an arrival nor a departure.
-fn lacks_time(row: &StopRow) -> bool
-    ensures { result ≡ lacks_time row.now }
-{
-    departure(row).is_none()
+    event.row < rows.len() && !rows[event.row].is_timed()
 }

@@ -13,12 +13,11 @@ use crate::stop_times::reading::{
     Reading, read_beside, read_clock, read_drop_off_type, read_number, read_pickup_type,
     read_timepoint,
 };
-use crate::trips::numbers::small_number;
 use gtfs_field::{Clock, OutOfMemory};
 use gtfs_schema::{Code, Kind, fault_code};
 use gtfs_stop_times::{
-    DropOffType, OptionalClock, OptionalHeadsign, PickupType, StopNo, StopRow, StopTime, Timepoint,
-    Times,
+    DropOffType, OptionalClock, OptionalHeadsign, PickupType, ReadTimes, StopNo, StopRow, StopTime,
+    Timepoint, small_number,
 };
 use gtfs_table::{File, Record, Tables};
 
@@ -74,16 +73,16 @@ impl ReadStopTime<'_> {
 
     // How its times stand.
     #[inline(always)]
-    fn times(&self) -> Times
+    fn times(&self) -> ReadTimes
         ensures { result ≡ times_of (is_some (value_in self.now.stop_sequence))
             (is_fault self.now.arrival_time || is_fault self.now.departure_time) }
     {
         if self.stop_sequence.value().is_none() {
-            Times::Unplaced
+            ReadTimes::Unplaced
         } else if self.arrival_time.is_fault() || self.departure_time.is_fault() {
-            Times::Unclear
+            ReadTimes::Unclear
         } else {
-            Times::Clear
+            ReadTimes::Clear
         }
     }
 

@@ -13,11 +13,11 @@ ghost use Rattle.gtfs_trip_rules.specs.TripNotes.{times_noted, trip_note, trip_n
 ghost use Rattle.gtfs_stop_times.specs.StopTimeOrder.{AreEarlier};
 
 use crate::trips::judge::Judge;
-use crate::trips::numbers::{small_number, trip_number};
+use crate::trips::numbers::trip_number;
 use crate::trips::row_counts::{RowCounts, make_room};
 use gtfs_field::OutOfMemory;
 use gtfs_schema::{Finder, Ids};
-use gtfs_stop_times::{KeptStopTimes, StopTime};
+use gtfs_stop_times::{KeptStopTimes, StopTime, small_number};
 use std::alloc::Global;
 use std::collections::BTreeMap;
 use std::marker::Model;

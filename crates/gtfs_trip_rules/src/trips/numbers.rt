@@ -47,14 +47,3 @@ fn number_of_other<'a>(
     numbers.insert(id, number)?;
     Ok(number)
 }
-
-// A number as a stop time keeps it. No number is left for more than 4,294,967,295 rows or trips.
-#[inline(always)]
-pub(crate) fn small_number(number: usize) -> Result<u32, OutOfMemory>
-    ensures { IfOk result (λ small. small ≡ number) }
-{
-    match u32::try_from(number) {
-        Ok(small) => Ok(small),
-        Err(_) => Err(OutOfMemory),
-    }
-}

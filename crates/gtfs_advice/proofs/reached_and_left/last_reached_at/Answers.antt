@@ -8,4 +8,4 @@ use Rattle.gtfs_advice.proofs.reached_and_left.last_reached_at.Goals as goal
 pub returns : goal.returns
 returns c p =
     let rows = c.args.rows.now in
-    c.reached_at.ensures ∙ sym (ap (option_and_then comes) (last_is (stop_row_of p) rows c.in_ok-last.field-0.now None (sym c.in_ok-last.ensures.value)))
+    c.arrives.ensures ∙ sym (ap (option_and_then comes) (last_is (stop_row_of p) rows c.in_ok-last.field-0.now None (sym c.in_ok-last.ensures.value)))

@@ -2,7 +2,7 @@ use Rattle.std.proofs.Common.{rules, tests, sym, ◌∙◌}
 use Rattle.std.specs.Prelude.{is_some}
 use Rattle.std.proofs.lemmas.Iterator.{YieldsList-from_slice}
 use Rattle.std.proofs.lemmas.Iterator.Search.{all_from_yields_List}
-use Rattle.gtfs_rows.specs.Trips.{left_at}
+use Rattle.gtfs_stop_times.specs.RowTimes.{left_at}
 use Rattle.gtfs_advice.proofs.Rows.{at_one_moment}
 use Rattle.gtfs_advice.proofs.stop_times.is_at_one_moment.Goals as goal
 

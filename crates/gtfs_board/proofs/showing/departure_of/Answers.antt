@@ -1,5 +1,5 @@
 use Rattle.std.proofs.Common.{◌≡◌, ◌<◌, ◌∙◌, Some, length, sym, ap, subst, unwrap_or, []}
-use Rattle.std.specs.Prelude.{slice_get}
+use Rattle.std.specs.Prelude.{not, slice_get}
 use Rattle.std.proofs.lemmas.Option.{slice_get-get_or}
 use Rattle.gtfs_rows.proofs.NumberFacts.{trip_route}
 use Rattle.gtfs_rows.proofs.TripFacts.{periods}
@@ -51,4 +51,4 @@ returns-clause-listed c =
     shown_rows p c.soundness.ensures c.args.candidate.now c.trip_by_number-trip.result.now rs c.trip_frequencies.result.now r c.route_by_number.result.now _
     c.trip_by_number-trip.ensures c.trip_rows.ensures c.trip_frequencies.ensures at c.route_by_number.ensures
     c.key_of.ensures.key c.stop_id.ensures c.name_of.ensures c.headsign_of.ensures
-    (c.new.ensures ∙ (λ i. mark_if (c.has_inexact.ensures i) (c.is_untimed.ensures i)))
+    (c.new.ensures ∙ (λ i. mark_if (c.has_inexact.ensures i) (not (c.is_timed.ensures i))))

@@ -6,7 +6,7 @@ ghost use Rattle.gtfs_cli.specs.RefusalOrder.{IsFirstBad};
 ghost use Rattle.gtfs_cli.specs.SharedOptions.{first_of_bad};
 ghost use Rattle.gtfs_cli.specs.BoardOptions.{after_of, judged_board, judged_values, limit_of, moment_of, IsSound};
 
-use crate::commands::options::{Moment, read_moment, read_times};
+use crate::commands::options::{GivenMoment, read_moment, read_times};
 use crate::commands::refusal::Refusal;
 use gtfs_board::{Key, Times, read_key};
 use gtfs_commands::BoardTexts;
@@ -19,9 +19,9 @@ const NO_LIMIT: u64 = u64::MAX;
 #[derive(Clone, Copy)]
 pub(crate) struct BoardRequest<'w> {
     // When the board begins.
-    pub(crate) from: Moment,
+    pub(crate) from: GivenMoment,
     // When it ends.
-    pub(crate) until: Moment,
+    pub(crate) until: GivenMoment,
     // How many lines are printed at most.
     pub(crate) limit: u64,
     // The key after which the lines begin, if any.

@@ -10,7 +10,7 @@ use std::alloc::Global;
 
 // When a board begins or ends.
 #[derive(Clone, Copy)]
-pub(crate) enum Moment {
+pub(crate) enum GivenMoment {
     // An instant, in seconds since 1970-01-01T00:00:00Z, of at most twelve digits.
     Instant(i64),
     // A service day, from 1900-01-01 to 9998-12-31, which stands for its origin in the zone.
@@ -19,13 +19,13 @@ pub(crate) enum Moment {
 
 // Reads the value of `--from` or `--until`: `@` and an instant, or a service day YYYYMMDD.
 // None where the text is neither.
-pub(crate) fn read_moment(text: &str) -> Option<Moment>
+pub(crate) fn read_moment(text: &str) -> Option<GivenMoment>
     ensures value { result ≡ moment_of text.now }
     ensures sound { IfSome result IsSound }
 {
     match after_at(text) {
-        Some(instant) => Some(Moment::Instant(read_instant(instant).ok()?)),
-        None => Some(Moment::ServiceDay(read_service_day(text)?)),
+        Some(instant) => Some(GivenMoment::Instant(read_instant(instant).ok()?)),
+        None => Some(GivenMoment::ServiceDay(read_service_day(text)?)),
     }
 }
 
@@ -60,7 +60,7 @@ pub(crate) fn read_day_if_given(text: Option<&str>) -> Option<Option<Day>>
     }
 }
 
-impl Moment {
+impl GivenMoment {
     // The instant that is meant in the zone.
     // It takes no memory, so it never fails.
     pub(crate) fn instant(self, alloc: Global, zone: &Zone) -> Result<i64, OutOfMemory>
@@ -69,8 +69,8 @@ impl Moment {
         ensures short { IfOk result (λ x. unsigned_abs x < 10 ^ 12) }
     {
         match self {
-            Moment::Instant(instant) => Ok(instant),
-            Moment::ServiceDay(day) => zone.origin(alloc, day),
+            GivenMoment::Instant(instant) => Ok(instant),
+            GivenMoment::ServiceDay(day) => zone.origin(alloc, day),
         }
     }
 }

@@ -1,6 +1,6 @@
 use Rattle.std.proofs.Common.{◌≡◌, ◌∙◌, ◌+◌, ◌-◌, ◌*◌, ◌/◌, ◌<◌, length, get_or, Some, sym, ap, arith, unwrap_or}
 use Rattle.std.proofs.lemmas.List.{get_or_default}
-use Rattle.gtfs_rows.specs.Trips.{left_at, reached_at}
+use Rattle.gtfs_stop_times.specs.RowTimes.{left_at, reached_at}
 use Rattle.gtfs_times.proofs.FillValue.{fill-value}
 use Rattle.gtfs_times.proofs.fill.filled_between.Goals as goal
 

@@ -1,6 +1,6 @@
 use Rattle.std.proofs.Common.{◌≡◌, ◌∙◌, ◌+◌, false, get_or, is_some, sym, ap, subst}
 use Rattle.std.proofs.lemmas.List.{get_or_default}
-use Rattle.gtfs_rows.specs.Trips.{left_at}
+use Rattle.gtfs_stop_times.specs.RowTimes.{left_at}
 use Rattle.gtfs_times.specs.Spans.{IsSpanAt}
 use Rattle.gtfs_times.proofs.FillValue.{open-value}
 use Rattle.gtfs_times.proofs.fill.filled_row.Goals as goal

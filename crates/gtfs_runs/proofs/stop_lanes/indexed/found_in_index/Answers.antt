@@ -6,7 +6,7 @@ use Rattle.gtfs_rows.specs.declared.parts.Parts.{Parts}
 use Rattle.gtfs_times.specs.TimedRows.{timed_parts}
 use Rattle.gtfs_runs.specs.StopLanes.{LaneValue, period_value}
 use Rattle.gtfs_runs.specs.declared.stop_index.DepartureRow.{DepartureRow}
-use Rattle.gtfs_runs.specs.declared.stop_lanes.listed.Listed.{Listed}
+use Rattle.gtfs_runs.specs.declared.stop_lanes.listed.ListedEvent.{ListedEvent}
 use Rattle.gtfs_runs.specs.steps.AtStops.{at_stop}
 use Rattle.gtfs_runs.specs.steps.Courses.{AreServed}
 use Rattle.gtfs_runs.specs.steps.Ranked.{IsRanked, group_number}
@@ -74,7 +74,7 @@ returns-clause-found c =
     let new = c.add_children.new.found in
     let listed = c.in_ok-with_capacity.field-0.items in
     let first : AreAdded p own [] mid.listed.items [] (map period_value mid.periods.items) =
-    subst (λ (v : (Parts × List DepartureRow) × (List Listed × List LaneValue)). AreAdded v.0.0 v.0.1 v.1.0 mid.listed.items v.1.1 (map period_value mid.periods.items))
+    subst (λ (v : (Parts × List DepartureRow) × (List ListedEvent × List LaneValue)). AreAdded v.0.0 v.0.1 v.1.0 mid.listed.items v.1.1 (map period_value mid.periods.items))
     (λ j. ((c.feed-feed.ensures j, sym (get_or_from_slice_get i.rows s c.rows-rows.result.now [] c.rows-rows.ensures) j), (c.in_ok-with_capacity.ensures.items j, ap (map period_value) c.new.ensures.items j)))
     c.in_ok-add_rows.ensures.added in
     all_found i.times p sound s (own ++ rest) new.listed.items (map period_value new.periods.items)

@@ -4,7 +4,7 @@ use Rattle.std.specs.List.Sorted.{IsPermutation}
 use Rattle.std.proofs.lemmas.List.{get_or_default, map-append, map-id}
 use Rattle.std.proofs.lemmas.List.Elements.{All-push}
 use Rattle.std.proofs.lemmas.List.Sorted.{All-permutation, IsPermutation-map}
-use Rattle.gtfs_runs.specs.declared.stop_lanes.listed.Listed.{Listed}
+use Rattle.gtfs_runs.specs.declared.stop_lanes.listed.ListedEvent.{ListedEvent}
 use Rattle.gtfs_runs.specs.declared.stop_lanes.listed.Ranked.{Ranked}
 use Rattle.gtfs_runs.proofs.Pushes.{mapped-all, pushed-more}
 use Rattle.gtfs_runs.proofs.stop_lanes.listed.places_by_rank.Goals as goal
@@ -30,6 +30,6 @@ returns-clause-within c = All-permutation (λ y. y.at < length c.args.listed.now
 pub returns-clause-same : goal.returns-clause-same
 returns-clause-same c = λ d.
     let xs = c.args.listed.now in
-    let at : Ranked → Listed = λ y. get_or xs y.at d in
+    let at : Ranked → ListedEvent = λ y. get_or xs y.at d in
     let all : map at c.loop-at.places.items ≡ xs = mapped-all (λ y. y) xs c.loop-at.at _ c.loop-at-test.false (c.loop-at.invariant.same d) ∙ map-id xs in
     subst (λ l. IsPermutation l (map at c.sort_unstable_by_key.new.self.items)) all (IsPermutation-map at _ _ c.sort_unstable_by_key.ensures.permutation)

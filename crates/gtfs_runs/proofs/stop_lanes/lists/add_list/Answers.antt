@@ -8,7 +8,7 @@ use Rattle.gtfs_rows.specs.Order.{Ascends}
 use Rattle.gtfs_runs.specs.Order.{event_cmp}
 use Rattle.gtfs_runs.specs.StopLanes.{list_value}
 use Rattle.gtfs_runs.specs.declared.event.Event.{Event}
-use Rattle.gtfs_runs.specs.declared.stop_lanes.listed.Listed.{Listed}
+use Rattle.gtfs_runs.specs.declared.stop_lanes.listed.ListedEvent.{ListedEvent}
 use Rattle.gtfs_runs.specs.steps.Courses.{event_of, how_many, is_same_course, stopping_of}
 use Rattle.gtfs_runs.proofs.Chunks.{fewer, lane_of_course, no_event, told_list}
 use Rattle.gtfs_runs.proofs.CourseOrder.{count_more}
@@ -17,7 +17,7 @@ use Rattle.gtfs_runs.proofs.Pushes.{none-made}
 use Rattle.gtfs_runs.proofs.stop_lanes.lists.add_list.Goals as goal
 
 -- the lane's part of all events
-own_events : (all : List Event) (at n : ℕ) (xs : List Listed) (part : List Event) → drop at all ≡ map event_of xs → part ≡ take n (drop at all) → part ≡ map event_of (take n xs)
+own_events : (all : List Event) (at n : ℕ) (xs : List ListedEvent) (part : List Event) → drop at all ≡ map event_of xs → part ≡ take n (drop at all) → part ≡ map event_of (take n xs)
 own_events all at n xs part here is = is ∙ ap (take n) here ∙ take-map event_of n xs
 
 pub part-requires : goal.part-requires

@@ -6,7 +6,7 @@ use Rattle.std.proofs.lemmas.Option.{get_or_from_slice_get}
 use Rattle.gtfs_rows.specs.Trips.{stop_rows_by_trip}
 use Rattle.gtfs_runs.specs.steps.Groups.{trip_group}
 use Rattle.gtfs_stop_times.specs.StopLists.{stops_in}
-use Rattle.gtfs_runs.specs.declared.stop_lanes.listed.Listed.{Listed}
+use Rattle.gtfs_runs.specs.declared.stop_lanes.listed.ListedEvent.{ListedEvent}
 use Rattle.gtfs_runs.proofs.Chunks.{no_event}
 use Rattle.gtfs_runs.proofs.Numbers.{trips_kept, trips_more}
 use Rattle.gtfs_runs.proofs.stop_lanes.numbered.trips_of.Goals.{then-not-goes_on+in_ok-push+in_ok-push-2, else-not-goes_on}
@@ -24,7 +24,7 @@ loop-n-preserved c =
       | then-not-goes_on+in_ok-push+in_ok-push-2 w ↦
           let t = w.trip-trip.result in
           let pushed = ap (λ v. v.items) w.trips-is ∙ w.in_ok-push.ensures.items in
-          let is : (d : Listed) → (get_or xs n d).trip ≡ t.0 = λ d. sym (w.trip-trip.ensures ∙ ap (λ x. x.trip) (get_or_default xs n _ d c.loop-n-test.true)) in
+          let is : (d : ListedEvent) → (get_or xs n d).trip ≡ t.0 = λ d. sym (w.trip-trip.ensures ∙ ap (λ x. x.trip) (get_or_default xs n _ d c.loop-n-test.true)) in
           let known : t.0 < length p.trips = subst (λ m. m < length p.trips) (is no_event) (c.requires n no_event c.loop-n-test.true) in
           record {
             known = subst (All (λ u. u.0 < length p.trips)) (sym pushed) (All-push (λ u. u.0 < length p.trips) old t inv.known known);

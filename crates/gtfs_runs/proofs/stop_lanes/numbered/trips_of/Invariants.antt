@@ -1,7 +1,7 @@
 use Rattle.std.proofs.Common.{◌≡◌, ◌≤◌, ◌<◌, ◌==◌, ℕ, get_or, length, map}
 use Rattle.std.specs.List.{All}
 use Rattle.gtfs_runs.specs.Counts.{tally}
-use Rattle.gtfs_runs.specs.declared.stop_lanes.listed.Listed.{Listed}
+use Rattle.gtfs_runs.specs.declared.stop_lanes.listed.ListedEvent.{ListedEvent}
 use Rattle.gtfs_runs.specs.steps.Groups.{trip_group}
 use Rattle.gtfs_runs.proofs.stop_lanes.numbered.trips_of.Given as goal
 
@@ -9,6 +9,6 @@ use Rattle.gtfs_runs.proofs.stop_lanes.numbered.trips_of.Given as goal
 abbrev pub invariant-loop-n : goal.invariant-loop-n
 invariant-loop-n l = record {
   known : All (λ t. t.0 < length l.feed.trips) l.trips.items;
-  all : (k : ℕ) (d : Listed) → k < l.n → 1 ≤ tally (λ t. (get_or l.listed k d).trip == t.0) l.trips.items;
+  all : (k : ℕ) (d : ListedEvent) → k < l.n → 1 ≤ tally (λ t. (get_or l.listed k d).trip == t.0) l.trips.items;
   stops : l.lists ≡ map (λ t. (trip_group l.feed t.0).1) l.trips.items;
 }

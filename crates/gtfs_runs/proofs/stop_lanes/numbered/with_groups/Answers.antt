@@ -2,7 +2,7 @@ use Rattle.std.proofs.Common.{◌≡◌, ◌<◌, ◌∙◌, length, get_or, ref
 use Rattle.std.specs.List.{All}
 use Rattle.std.proofs.lemmas.List.{length-map}
 use Rattle.std.proofs.lemmas.List.Elements.{All-map}
-use Rattle.gtfs_runs.specs.declared.stop_lanes.listed.Listed.{Listed}
+use Rattle.gtfs_runs.specs.declared.stop_lanes.listed.ListedEvent.{ListedEvent}
 use Rattle.gtfs_runs.specs.steps.Courses.{stopping_of}
 use Rattle.gtfs_runs.specs.steps.Groups.{below, trip_group}
 use Rattle.gtfs_runs.proofs.Chunks.{all_mapped}
@@ -14,7 +14,7 @@ loop-n-preserved c =
     let xs = c.loop-n.listed.items in
     let n = c.loop-n.n in
     let x = c.index_mut.result.now in
-    let y : Listed = record { group = c.in_ok-group.group; row = x.row; at = x.at; trip = x.trip; run = x.run; seq = x.seq; service = x.service; rank = x.rank } in
+    let y : ListedEvent = record { group = c.in_ok-group.group; row = x.row; at = x.at; trip = x.trip; run = x.run; seq = x.seq; service = x.service; rank = x.rank } in
     let all = c.args.listed.items in
     let size : length xs ≡ length all = sym (length-map xs (λ z. z.trip)) ∙ ap length c.loop-n.invariant.trips ∙ length-map all (λ z. z.trip) in
     let within : n < length xs = omega (arith, size, c.loop-n-test.true, c.len-n-end.ensures) in

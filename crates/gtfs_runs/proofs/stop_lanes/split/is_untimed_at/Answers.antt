@@ -1,5 +1,6 @@
 use Rattle.std.proofs.Common.{◌≡◌, ◌∙◌, ◌≤◌, List, Some, length, refl, sym, ap, arith}
 use Rattle.std.specs.List.{slice_get}
+use Rattle.std.specs.Prelude.{not}
 use Rattle.std.proofs.lemmas.Bool.{le-ltb}
 use Rattle.std.proofs.lemmas.Option.{slice_get_past, slice_get_read}
 use Rattle.gtfs_schema.specs.Values.{if_there}
@@ -17,7 +18,7 @@ returns-then-event-rows c =
     let e = c.args.event.now in
     let rows : List StopRow = c.trip_rows-rows.result.now in
     let at : slice_get rows e.row ≡ Some c.index-rows-event.result = slice_get_read rows (length rows) e.row c.index-rows-event.result refl c.if-event-rows.true c.index-rows-event.is in
-    c.lacks_time.ensures ∙ sym (untimed_row p c.soundness.ensures e rows (omega (arith, c.if-event-trip_count.false, c.trip_count.ensures)) c.trip_rows-rows.ensures
+    ap not c.is_timed.ensures ∙ sym (untimed_row p c.soundness.ensures e rows (omega (arith, c.if-event-trip_count.false, c.trip_count.ensures)) c.trip_rows-rows.ensures
     ∙ ap (λ o. if_there o lacks_time) at)
 
 pub returns-else-event-rows : goal.returns-else-event-rows

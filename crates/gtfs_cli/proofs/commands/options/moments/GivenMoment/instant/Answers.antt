@@ -1,5 +1,5 @@
 use Rattle.gtfs_cli.proofs.Moments.{origins-small}
-use Rattle.gtfs_cli.proofs.commands.options.moments.Moment.instant.Goals as goal
+use Rattle.gtfs_cli.proofs.commands.options.moments.GivenMoment.instant.Goals as goal
 
 pub returns-in-ServiceDay-clause-short : goal.returns-in-ServiceDay-clause-short
 returns-in-ServiceDay-clause-short c =

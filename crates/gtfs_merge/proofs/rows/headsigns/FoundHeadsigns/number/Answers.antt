@@ -3,7 +3,7 @@ use Rattle.std.specs.Prelude.{option_and_then}
 use Rattle.std.specs.Cmp.Lexicographic.{bytes_decides}
 use Rattle.std.specs.List.{slice_get}
 use Rattle.gtfs_merge.proofs.HeadsignNumbers.{kept-insert, number-told}
-use Rattle.gtfs_merge.proofs.rows.headsigns.Found.number.Goals as goal
+use Rattle.gtfs_merge.proofs.rows.headsigns.FoundHeadsigns.number.Goals as goal
 
 pub returns-clause-number : goal.returns-clause-number
 returns-clause-number c =

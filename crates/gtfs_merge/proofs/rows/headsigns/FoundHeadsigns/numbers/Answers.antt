@@ -3,7 +3,7 @@ use Rattle.std.proofs.lemmas.List.{take_all}
 use Rattle.gtfs_merge.specs.Headsigns.{AreNumbersOf}
 use Rattle.gtfs_merge.proofs.HeadsignNumbers.{kept-twice, numbers-more}
 use Rattle.gtfs_merge.proofs.InTurn.{same-index}
-use Rattle.gtfs_merge.proofs.rows.headsigns.Found.numbers.Goals as goal
+use Rattle.gtfs_merge.proofs.rows.headsigns.FoundHeadsigns.numbers.Goals as goal
 
 pub loop-headsign-init : goal.loop-headsign-init
 loop-headsign-init c = record {

@@ -2,10 +2,10 @@ use Rattle.std.proofs.Common.{List, map, sym, ap, subst}
 use Rattle.std.specs.List.{All}
 use Rattle.gtfs_runs.specs.StopLanes.{LaneValue, period_value}
 use Rattle.gtfs_runs.specs.declared.stop_index.DepartureRow.{DepartureRow}
-use Rattle.gtfs_runs.specs.declared.stop_lanes.listed.Listed.{Listed}
+use Rattle.gtfs_runs.specs.declared.stop_lanes.listed.ListedEvent.{ListedEvent}
 use Rattle.gtfs_runs.specs.steps.RowFinds.{AreAdded, IsInside}
 use Rattle.gtfs_runs.proofs.RowFinds.{all_found}
-use Rattle.gtfs_runs.proofs.stop_lanes.found.Found.at_place.Goals as goal
+use Rattle.gtfs_runs.proofs.stop_lanes.found.FoundEvents.at_place.Goals as goal
 
 pub add_rows-requires : goal.add_rows-requires
 add_rows-requires c = subst (All (IsInside c.args.feed.now)) (sym c.deref.ensures.value) c.in_ok-rows.ensures.inside
@@ -16,5 +16,5 @@ returns-clause-found c = λ s place.
     let rows = c.in_ok-rows.rows.items in
     let new = c.add_rows.new.found in
     all_found c.args.times p c.soundness.ensures s rows new.listed.items (map period_value new.periods.items) (c.in_ok-rows.ensures.rows s place) c.in_ok-rows.ensures.noted
-    (subst (λ (v : List DepartureRow × (List Listed × List LaneValue)). AreAdded p v.0 v.1.0 new.listed.items v.1.1 (map period_value new.periods.items))
+    (subst (λ (v : List DepartureRow × (List ListedEvent × List LaneValue)). AreAdded p v.0 v.1.0 new.listed.items v.1.1 (map period_value new.periods.items))
     (λ j. (c.deref.ensures.value j, (c.in_ok-with_capacity.ensures.items j, ap (map period_value) c.new.ensures.items j))) c.in_ok-add_rows.ensures)

@@ -1,7 +1,7 @@
 use Rattle.std.proofs.Common.{◌∙◌, ◌++◌, ◌∷◌, [], ap, append-nil, append_assoc, sym, subst, string_bytes, map}
 use Rattle.gtfs_rows.specs.Headsigns.{AreDistinct}
 use Rattle.gtfs_rows.proofs.HeadsignFacts.{distinct-texts}
-use Rattle.gtfs_merge.proofs.rows.headsigns.Found.into_list.Goals as goal
+use Rattle.gtfs_merge.proofs.rows.headsigns.FoundHeadsigns.into_list.Goals as goal
 
 pub loop-text-init : goal.loop-text-init
 loop-text-init c =

@@ -1,7 +1,7 @@
 use Rattle.std.proofs.Common.{take}
 use Rattle.gtfs_rows.specs.Headsigns.{KeepsHeadsigns}
 use Rattle.gtfs_merge.specs.Headsigns.{AreNumbersOf}
-use Rattle.gtfs_merge.proofs.rows.headsigns.Found.numbers.Given as goal
+use Rattle.gtfs_merge.proofs.rows.headsigns.FoundHeadsigns.numbers.Given as goal
 
 -- the numbers so far
 abbrev pub invariant-loop-headsign : goal.invariant-loop-headsign
