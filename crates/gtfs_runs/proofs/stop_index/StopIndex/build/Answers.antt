@@ -8,23 +8,23 @@ use Rattle.gtfs_runs.proofs.Numbers.{by_groups}
 use Rattle.gtfs_runs.proofs.stop_index.StopIndex.build.Goals as goal
 
 pub stop_lists-requires : goal.stop_lists-requires
-stop_lists-requires c = c.parts.ensures.sound.stop_rows.1.0
+stop_lists-requires c = c.parts.ensures.sound.stop_rows.1
 
 pub build-requires-clause-trips : goal.build-requires-clause-trips
 build-requires-clause-trips c =
     let p = c.args.feed.now in
-    subst (AreOfTrips p (length p.trips)) (sym c.deref-2.ensures.value) (trips_moved p (length p.trips) _ _ c.by_group-trips.ensures.same c.in_ok-grouped_trips.ensures)
+    subst (AreOfTrips p (length p.trips)) (sym c.deref.ensures.value) (trips_moved p (length p.trips) _ _ c.by_group-trips.ensures.same c.in_ok-grouped_trips.ensures)
 
 pub build-requires-clause-in_order : goal.build-requires-clause-in_order
-build-requires-clause-in_order c = subst (IsSorted grouped_cmp) (sym c.deref-2.ensures.value) c.by_group-trips.ensures.in_order
+build-requires-clause-in_order c = subst (IsSorted grouped_cmp) (sym c.deref.ensures.value) c.by_group-trips.ensures.in_order
 
 pub indexed_trips-requires-clause-trips : goal.indexed_trips-requires-clause-trips
 indexed_trips-requires-clause-trips c =
     let p = c.args.feed.now in
-    subst (AreOfTrips p (length p.trips)) (sym c.deref-3.ensures.value) (trips_moved p (length p.trips) _ _ c.by_group-trips.ensures.same c.in_ok-grouped_trips.ensures)
+    subst (AreOfTrips p (length p.trips)) (sym c.deref-2.ensures.value) (trips_moved p (length p.trips) _ _ c.by_group-trips.ensures.same c.in_ok-grouped_trips.ensures)
 
 pub indexed_trips-requires-clause-in_order : goal.indexed_trips-requires-clause-in_order
-indexed_trips-requires-clause-in_order c = by_groups _ (subst (IsSorted grouped_cmp) (sym c.deref-3.ensures.value) c.by_group-trips.ensures.in_order)
+indexed_trips-requires-clause-in_order c = by_groups _ (subst (IsSorted grouped_cmp) (sym c.deref-2.ensures.value) c.by_group-trips.ensures.in_order)
 
 pub invariant_of-result : goal.invariant_of-result
 invariant_of-result c =
@@ -34,6 +34,6 @@ invariant_of-result c =
       rows = c.in_ok-rows.ensures.rows;
       noted = c.in_ok-rows.ensures.noted;
       children = c.in_ok-children.ensures;
-      trips = all_ranked p sorted c.in_ok-trips.trips.items (subst (λ l. AreIndexedTrips p l c.in_ok-trips.trips.items) c.deref-3.ensures.value c.in_ok-trips.ensures) _
-          (subst (λ l. All (All (IsOfRank l)) c.in_ok-rows.rows) c.deref-2.ensures.value c.in_ok-rows.ensures.ranked);
+      trips = all_ranked p sorted c.in_ok-trips.trips.items (subst (λ l. AreIndexedTrips p l c.in_ok-trips.trips.items) c.deref-2.ensures.value c.in_ok-trips.ensures) _
+          (subst (λ l. All (All (IsOfRank l)) c.in_ok-rows.rows) c.deref.ensures.value c.in_ok-rows.ensures.ranked);
     }
