@@ -1,5 +1,7 @@
 use Rattle.std.proofs.Common.{length, sym, subst}
 use Rattle.std.specs.List.Sorted.{IsSorted}
+use Rattle.csv.specs.Records.{Rising}
+use Rattle.gtfs_rows.specs.declared.parts.Parts.{Parts}
 use Rattle.gtfs_runs.specs.steps.Groups.{AreOfTrips, grouped_cmp}
 use Rattle.gtfs_runs.specs.steps.Ranked.{AreIndexedTrips, IsOfRank}
 use Rattle.std.specs.List.{All}
@@ -8,7 +10,8 @@ use Rattle.gtfs_runs.proofs.Numbers.{by_groups}
 use Rattle.gtfs_runs.proofs.stop_index.StopIndex.build.Goals as goal
 
 pub stop_lists-requires : goal.stop_lists-requires
-stop_lists-requires c = c.parts.ensures.sound.stop_rows.1
+stop_lists-requires c =
+    subst (λ (p : Parts). Rising 0 p.stop_times.starts (length p.stop_times.rows)) (sym c.parts.ensures.value) c.parts.ensures.sound.stop_rows.1
 
 pub build-requires-clause-trips : goal.build-requires-clause-trips
 build-requires-clause-trips c =
