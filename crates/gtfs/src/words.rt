@@ -1,6 +1,6 @@
 //! The words of the command line.
 ghost use Rattle.std.specs.Prelude.{IfErr};
-ghost use Rattle.gtfs_cli.specs.Faults.{IsWordsFault};
+ghost use Rattle.gtfs_cli.specs.WordFaults.{IsWordsFault};
 
 use gtfs_cli::Fault;
 use std::env;

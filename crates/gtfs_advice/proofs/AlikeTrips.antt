@@ -14,9 +14,9 @@ use Rattle.std.proofs.lemmas.Map.Text.{is_eq-slice_cmp}
 use lib.Pointwise.{pointwise}
 use Rattle.gtfs_field.specs.TextOrder.{text_cmp}
 use Rattle.gtfs_field.proofs.TestFacts.{and_later}
-use Rattle.gtfs_rows.specs.Choices.{drop_off_code, exact_code, pickup_code, timepoint_code}
+use Rattle.gtfs_rows.specs.RowChoices.{drop_off_code, exact_code, pickup_code, timepoint_code}
 use Rattle.gtfs_rows.specs.NamedRows.{text_of_number}
-use Rattle.gtfs_rows.specs.Views.{IsSoundParts, frequency_of, route_ids, service_ids, stop_row_of}
+use Rattle.gtfs_rows.specs.RowsInMemory.{IsSoundParts, frequency_of, route_ids, service_ids, stop_row_of}
 use Rattle.gtfs_rows.specs.declared.frequency.Frequency.{Frequency}
 use Rattle.gtfs_rows.specs.declared.parts.Parts.{Parts}
 use Rattle.gtfs_rows.proofs.SameElements.{pairs-map}

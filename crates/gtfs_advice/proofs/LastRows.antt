@@ -10,7 +10,7 @@ use Rattle.std.proofs.lemmas.List.Folds.{list_any-append, list_any_at, list_any_
 use Rattle.gtfs_field.proofs.ListFacts.{any_alike, any_mapped}
 use Rattle.gtfs_rows.specs.Rows.{StopRow, Trip}
 use Rattle.gtfs_rows.specs.Runs.{is_not_last}
-use Rattle.gtfs_rows.specs.Views.{stop_row_of, text_of_number}
+use Rattle.gtfs_rows.specs.RowsInMemory.{stop_row_of, text_of_number}
 use Rattle.gtfs_rows.specs.declared.parts.Parts.{Parts}
 use Rattle.gtfs_stop_times.specs.declared.stop_row.StopRow.{StopRow as Row}
 use Rattle.gtfs_advice.specs.NumberedRows.{GoesAlong}

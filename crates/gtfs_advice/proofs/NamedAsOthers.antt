@@ -19,8 +19,8 @@ use Rattle.gtfs_field.proofs.ListFacts.{any_alike, any_mapped, mapped_at, some_o
 use Rattle.gtfs_rows.specs.declared.parts.Parts.{Parts}
 use Rattle.gtfs_rows.specs.declared.route.Route.{Route}
 use Rattle.gtfs_rows.specs.NamedRows.{text_of_number}
-use Rattle.gtfs_rows.specs.Order.{Ascends}
-use Rattle.gtfs_rows.specs.Views.{IsSoundParts, agency_ids, content_of_parts, route_ids, route_of}
+use Rattle.gtfs_rows.specs.TransferOrder.{Ascends}
+use Rattle.gtfs_rows.specs.RowsInMemory.{IsSoundParts, agency_ids, content_of_parts, route_ids, route_of}
 use Rattle.gtfs_rows.proofs.RowTexts.{all_at}
 use Rattle.gtfs_rows.proofs.SameElements.{pairs-map}
 use Rattle.gtfs_rows.proofs.SoundOrder.{in_order}

@@ -12,7 +12,7 @@ use Rattle.std.proofs.lemmas.Map.Text.{is_eq-slice_cmp}
 use Rattle.std.proofs.lemmas.Option.{get_or_from_slice_get, same_Some, slice_get_within}
 use Rattle.gtfs_field.specs.TextOrder.{text_cmp}
 use Rattle.gtfs_schema.proofs.SiteFacts.{text_itself}
-use Rattle.gtfs_rows.specs.Order.{Ascends}
+use Rattle.gtfs_rows.specs.TransferOrder.{Ascends}
 use Rattle.gtfs_rows.specs.NamedRows.{text_of_number}
 use Rattle.gtfs_rows.proofs.Held.{apart}
 use Rattle.gtfs_rows.proofs.SameElements.{pairs-head, pairs-tail}

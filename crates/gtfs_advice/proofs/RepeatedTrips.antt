@@ -15,7 +15,7 @@ use Rattle.gtfs_field.proofs.ListFacts.{any_alike, some_of}
 use Rattle.gtfs_table.proofs.PartFacts.{length-parts}
 use Rattle.gtfs_rows.specs.Rows.{Trip}
 use Rattle.gtfs_rows.specs.Trips.{frequencies_by_trip, stop_rows_by_trip}
-use Rattle.gtfs_rows.specs.Views.{IsSoundParts, content_of_parts, stop_row_of, trip_ids}
+use Rattle.gtfs_rows.specs.RowsInMemory.{IsSoundParts, content_of_parts, stop_row_of, trip_ids}
 use Rattle.gtfs_rows.specs.declared.parts.Parts.{Parts}
 use Rattle.gtfs_rows.proofs.SameElements.{pairs-map}
 use Rattle.gtfs_rows.proofs.SoundOrder.{in_order, trip_ids-kept}

@@ -10,20 +10,20 @@ use Rattle.std.proofs.lemmas.Option.{get_or_from_slice_get, slice_get_within}
 use Rattle.gtfs_field.specs.TextOrder.{text_cmp}
 use Rattle.gtfs_field.proofs.ListFacts.{any_alike, mapped_at}
 use Rattle.gtfs_table.proofs.PartFacts.{length-parts}
-use Rattle.gtfs_rows.specs.declared.choices.Direction.{Direction}
+use Rattle.gtfs_rows.specs.declared.row_choices.Direction.{Direction}
 use Rattle.gtfs_rows.specs.declared.frequency.Frequency.{Frequency}
 use Rattle.gtfs_rows.specs.declared.parts.Parts.{Parts}
 use Rattle.gtfs_stop_times.specs.declared.stop_row.StopRow.{StopRow}
 use Rattle.gtfs_rows.specs.declared.route.Route.{Route}
 use Rattle.gtfs_rows.specs.declared.trip.Trip.{Trip as TripRow}
-use Rattle.gtfs_rows.specs.Choices.{direction_code}
+use Rattle.gtfs_rows.specs.RowChoices.{direction_code}
 use Rattle.gtfs_rows.specs.Content.{Content}
 use Rattle.gtfs_rows.specs.NamedRows.{is_number_within, text_of_number}
-use Rattle.gtfs_rows.specs.Order.{Ascends}
+use Rattle.gtfs_rows.specs.TransferOrder.{Ascends}
 use Rattle.gtfs_rows.specs.Rows as rows
 use Rattle.gtfs_rows.specs.Rows.{Trip}
 use Rattle.gtfs_rows.specs.Trips.{frequencies_by_trip, stop_rows_by_trip}
-use Rattle.gtfs_rows.specs.Views.{IsSoundParts, content_of_parts, route_ids, route_of, trip_of}
+use Rattle.gtfs_rows.specs.RowsInMemory.{IsSoundParts, content_of_parts, route_ids, route_of, trip_of}
 use Rattle.gtfs_rows.proofs.SameElements.{pairs-map}
 use Rattle.gtfs_rows.proofs.SoundOrder.{in_order}
 use Rattle.gtfs_advice.specs.declared.advice.Advice.{Advice}

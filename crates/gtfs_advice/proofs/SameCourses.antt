@@ -4,7 +4,7 @@ use Rattle.std.specs.Cmp.{IsTotalOrder}
 use Rattle.std.specs.Cmp.Lexicographic.{options_total}
 use Rattle.std.proofs.lemmas.Cmp.{lists_total, nat_cmp_total, on_total, then_total}
 use Rattle.gtfs_field.proofs.TextOrderFacts.{texts_total}
-use Rattle.gtfs_rows.specs.Choices.{drop_off_code, exact_code, pickup_code, timepoint_code}
+use Rattle.gtfs_rows.specs.RowChoices.{drop_off_code, exact_code, pickup_code, timepoint_code}
 use Rattle.gtfs_rows.specs.NamedRows.{text_of_number}
 use Rattle.gtfs_rows.specs.declared.frequency.Frequency.{Frequency}
 use Rattle.gtfs_stop_times.specs.declared.stop_row.StopRow.{StopRow}

@@ -14,7 +14,7 @@ use Rattle.gtfs_field.proofs.ListFacts.{any_mapped, mapped_at}
 use Rattle.gtfs_field.proofs.NumberFacts.{int_le-true, int_lt-false, int_lt-true, le-int_le}
 use Rattle.gtfs_days.specs.Service.{first_service_day, is_active, service_days}
 use Rattle.gtfs_rows.specs.Rows.{ServiceRow}
-use Rattle.gtfs_rows.specs.Views.{IsSoundParts, content_of_parts, service_of}
+use Rattle.gtfs_rows.specs.RowsInMemory.{IsSoundParts, content_of_parts, service_of}
 use Rattle.gtfs_rows.specs.declared.parts.Parts.{Parts}
 use Rattle.gtfs_rows.specs.declared.service.ServiceRow.{ServiceRow as ServiceByNumber}
 use Rattle.gtfs_advice.specs.declared.advice.Advice.{Advice}

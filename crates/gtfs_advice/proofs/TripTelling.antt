@@ -6,7 +6,7 @@ use Rattle.gtfs_field.proofs.ListFacts.{some_of}
 use Rattle.gtfs_table.proofs.PartFacts.{length-parts}
 use Rattle.gtfs_rows.specs.Rows.{Trip}
 use Rattle.gtfs_rows.specs.Trips.{frequencies_by_trip, stop_rows_by_trip}
-use Rattle.gtfs_rows.specs.Views.{IsSoundParts, content_of_parts, frequency_of, route_ids, service_ids, text_of_number, trip_of}
+use Rattle.gtfs_rows.specs.RowsInMemory.{IsSoundParts, content_of_parts, frequency_of, route_ids, service_ids, text_of_number, trip_of}
 use Rattle.gtfs_rows.specs.declared.frequency.Frequency.{Frequency}
 use Rattle.gtfs_rows.specs.declared.numbers.RouteNo.{RouteNo}
 use Rattle.gtfs_rows.specs.declared.numbers.ServiceNo.{ServiceNo}

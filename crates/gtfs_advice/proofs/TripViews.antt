@@ -7,7 +7,7 @@ use Rattle.gtfs_rows.specs.declared.parts.Parts.{Parts}
 use Rattle.gtfs_rows.specs.declared.trip.Trip.{Trip as TripRow}
 use Rattle.gtfs_stop_times.specs.declared.stop_row.StopRow.{StopRow}
 use Rattle.gtfs_rows.specs.Rows.{Trip}
-use Rattle.gtfs_rows.specs.Views.{trip_of, trips_of}
+use Rattle.gtfs_rows.specs.RowsInMemory.{trip_of, trips_of}
 
 module _ (p : Parts) (test : Trip → Bool) where
   -- a test of their rows of trips.txt

@@ -2,7 +2,7 @@
 use Rattle.std.specs.Prelude.{◌≡◌, ◌<◌, ⊤, ℕ, ◌++◌, not, Bool, if◌then◌else◌, List, [], ◌∷◌, All, length, map, filter, flat_map, slice_index_or, ℤ, Option, Some, None}
 use Rattle.gtfs_rows.specs.Content.{Content}
 use Rattle.gtfs_rows.specs.Rows.{Agency, Stop, Route, ServiceRow, Trip}
-use Rattle.gtfs_rows.specs.Views.{agency_ids, route_ids, service_ids, stop_ids, trip_ids}
+use Rattle.gtfs_rows.specs.RowsInMemory.{agency_ids, route_ids, service_ids, stop_ids, trip_ids}
 use Rattle.gtfs_rows.specs.declared.parts.Parts.{Parts}
 use Rattle.gtfs_advice.specs.declared.advice.Advice.{Advice}
 use Rattle.gtfs_advice.specs.declared.advice.Subject.{Subject}

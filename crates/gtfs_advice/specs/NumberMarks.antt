@@ -1,6 +1,6 @@
 -- Flags by number, and the numbers for which they are set.
 use Rattle.std.specs.Prelude.{◌≡◌, ◌<◌, ℕ, ◌==◌, Bool, true, false, if◌then◌else◌, List, length, slice_index_or, Option, Some, None, is_none, is_some, option_map}
-use Rattle.gtfs_rows.specs.Choices.{location_code}
+use Rattle.gtfs_rows.specs.RowChoices.{location_code}
 use Rattle.gtfs_rows.specs.declared.stop.Stop.{Stop}
 use Rattle.gtfs_rows.specs.declared.trip.Trip.{Trip}
 

@@ -1,12 +1,12 @@
 -- Words of this crate's inner contracts: rows with numbers in place of ids, as the code has them.
 use Rattle.std.specs.Prelude.{◌≡◌, ◌==◌, ◌&&◌, Bool, false, List, [], ◌∷◌, map, slice_index_or, Option, None, ℤ}
-use Rattle.gtfs_schema.specs.Values.{if_both}
-use Rattle.gtfs_rows.specs.Choices.{drop_off_code, pickup_code}
+use Rattle.gtfs_schema.specs.FieldValues.{if_both}
+use Rattle.gtfs_rows.specs.RowChoices.{drop_off_code, pickup_code}
 use Rattle.gtfs_rows.specs.NamedRows.{stop_named}
 use Rattle.gtfs_rows.specs.Rows.{Trip}
 use Rattle.gtfs_rows.specs.Trips.{AreStopTimes}
 use Rattle.gtfs_stop_times.specs.RowTimes.{left_at, reached_at}
-use Rattle.gtfs_rows.specs.Views.{IsSoundParts, stop_row_of}
+use Rattle.gtfs_rows.specs.RowsInMemory.{IsSoundParts, stop_row_of}
 use Rattle.gtfs_rows.specs.declared.parts.Parts.{Parts}
 use Rattle.gtfs_rows.specs.declared.stop.Stop.{Stop}
 use Rattle.gtfs_stop_times.specs.declared.stop_row.StopRow.{StopRow}

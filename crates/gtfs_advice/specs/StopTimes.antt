@@ -3,11 +3,11 @@
 use Rattle.std.specs.Prelude.{ℕ, ◌+◌, ◌-◌, ◌*◌, ◌==◌, ◌&&◌, Bool, false, if◌then◌else◌, nat_eq, nat_lt, List, [], ◌∷◌, length, take, drop, map, filter, bytes_eq, Option, None, ℤ, ◌-ℤ◌, unsigned_abs}
 use Rattle.std.specs.List.{last_or, list_all, list_any, range_with_len}
 use Rattle.std.specs.Option.{option_and_then}
-use Rattle.gtfs_schema.specs.Values.{if_both}
+use Rattle.gtfs_schema.specs.FieldValues.{if_both}
 use Rattle.gtfs_rows.specs.Content.{Content}
 use Rattle.gtfs_rows.specs.Rows.{Stop, StopRow, Trip}
 use Rattle.gtfs_rows.specs.Runs.{first_leaves, is_timed}
-use Rattle.gtfs_rows.specs.Sound.{comes, leaves}
+use Rattle.gtfs_rows.specs.SoundContent.{comes, leaves}
 use Rattle.gtfs_advice.specs.Stops.{has_place, stop_with_id}
 
 -- ---- rows that follow each other

@@ -3,7 +3,7 @@
 use Rattle.std.specs.Prelude.{ℕ, ◌==◌, ◌&&◌, ◌||◌, not, Bool, nat_lt, nat_le, List, bytes_eq, find, Option, Some, ℤ, ◌-ℤ◌, unsigned_abs, is_some}
 use Rattle.std.specs.List.{list_any}
 use Rattle.std.specs.Option.{option_and_then, option_eq}
-use Rattle.gtfs_schema.specs.Values.{if_both, if_there}
+use Rattle.gtfs_schema.specs.FieldValues.{if_both, if_there}
 use Rattle.gtfs_rows.specs.Content.{Content}
 use Rattle.gtfs_rows.specs.Rows.{Stop, Trip}
 use Rattle.gtfs_advice.specs.TextFaults.{is_garbled_if_given}

@@ -2,7 +2,7 @@
 use Rattle.std.specs.Prelude.{ℕ, ◌==◌, ◌&&◌, not, Bool, true, false, List, [], length, bytes_eq, slice_index_or}
 use Rattle.std.specs.List.{list_any}
 use Rattle.gtfs_rows.specs.Rows.{ServiceRow, Trip}
-use Rattle.gtfs_rows.specs.Views.{content_of_parts, service_ids}
+use Rattle.gtfs_rows.specs.RowsInMemory.{content_of_parts, service_ids}
 use Rattle.gtfs_rows.specs.declared.parts.Parts.{Parts}
 use Rattle.gtfs_advice.specs.NumberMarks.{AreMarks}
 use Rattle.gtfs_advice.specs.Services.{has_week}

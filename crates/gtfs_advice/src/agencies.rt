@@ -1,7 +1,7 @@
 ghost use Rattle.std.specs.Prelude.{◌≡◌, ◌==◌, ◌<◌, not, IfOk, OnOk, length};
 ghost use Rattle.std.specs.List.{All, list_any};
 ghost use Rattle.gtfs_rows.specs.Content.{Content};
-ghost use Rattle.gtfs_rows.specs.Views.{IsSoundParts, agency_of, content_of_parts};
+ghost use Rattle.gtfs_rows.specs.RowsInMemory.{IsSoundParts, agency_of, content_of_parts};
 ghost use Rattle.gtfs_advice.specs.Advice.{Tells, agency_advice, agency_rules, answers_of};
 ghost use Rattle.gtfs_advice.specs.Agencies.{has_no_route};
 ghost use Rattle.gtfs_advice.specs.NumberMarks.{AreMarks};

@@ -1,7 +1,7 @@
 //! Days without service.
 ghost use Rattle.std.specs.Prelude.{◌≡◌, ◌++◌, ◌≤ℤ◌, IfOk, IfSome, OnOk};
 ghost use Rattle.gtfs_days.specs.Service.{first_service_day};
-ghost use Rattle.gtfs_rows.specs.Views.{IsSoundParts, content_of_parts};
+ghost use Rattle.gtfs_rows.specs.RowsInMemory.{IsSoundParts, content_of_parts};
 ghost use Rattle.gtfs_advice.specs.Advice.{Tells, end_advice, gap_advice};
 ghost use Rattle.gtfs_advice.specs.ServedDays.{AreAllKnown, end_said, gaps_said, last_of};
 ghost use Rattle.gtfs_advice.specs.Services.{is_day_served};

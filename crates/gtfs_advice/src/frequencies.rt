@@ -1,6 +1,6 @@
 ghost use Rattle.std.specs.Prelude.{◌≡◌, ◌<◌, OnOk, Some, length, map, slice_get};
 ghost use Rattle.gtfs_rows.specs.Rows.{Trip};
-ghost use Rattle.gtfs_rows.specs.Views.{content_of_parts, frequency_of};
+ghost use Rattle.gtfs_rows.specs.RowsInMemory.{content_of_parts, frequency_of};
 ghost use Rattle.gtfs_advice.specs.Advice.{Tells, answers_of, frequency_advice, frequency_rules};
 ghost use Rattle.gtfs_advice.specs.Trips.{has_period_of_one_run, has_single_run};
 

@@ -2,7 +2,7 @@ ghost use Rattle.std.specs.Prelude.{◌≡◌, ◌<◌, All, IfOk, length, map, 
 ghost use Rattle.std.specs.List.{list_any};
 ghost use Rattle.std.specs.List.Sorted.{IsPermutation, IsSorted};
 ghost use Rattle.std.specs.Option.{option_eq};
-ghost use Rattle.gtfs_rows.specs.Views.{IsSoundParts, content_of_parts};
+ghost use Rattle.gtfs_rows.specs.RowsInMemory.{IsSoundParts, content_of_parts};
 ghost use Rattle.gtfs_advice.specs.NumberMarks.{AreMarks};
 ghost use Rattle.gtfs_advice.specs.NamedRoutes.{AreNamed, IsNamed, listed_cmp, name_cmp, neighbours, repeated};
 ghost use Rattle.gtfs_advice.specs.Routes.{is_named_as_another};

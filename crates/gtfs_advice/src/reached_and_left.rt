@@ -1,5 +1,5 @@
 ghost use Rattle.std.specs.Prelude.{◌≡◌, map};
-ghost use Rattle.gtfs_rows.specs.Views.{stop_row_of};
+ghost use Rattle.gtfs_rows.specs.RowsInMemory.{stop_row_of};
 ghost use Rattle.gtfs_rows.specs.Runs.{first_leaves};
 ghost use Rattle.gtfs_rows.specs.declared.parts.Parts.{Parts};
 ghost use Rattle.gtfs_advice.specs.StopTimes.{last_comes};

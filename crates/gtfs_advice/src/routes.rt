@@ -3,7 +3,7 @@ ghost use Rattle.std.specs.List.{list_any};
 ghost use Rattle.std.specs.Option.{option_eq};
 ghost use Rattle.gtfs_rows.specs.Content.{Content};
 ghost use Rattle.gtfs_rows.specs.NamedRows.{route_named};
-ghost use Rattle.gtfs_rows.specs.Views.{IsSoundParts, content_of_parts, route_of};
+ghost use Rattle.gtfs_rows.specs.RowsInMemory.{IsSoundParts, content_of_parts, route_of};
 ghost use Rattle.gtfs_advice.specs.Advice.{Tells, answers_of, route_advice, route_rules};
 ghost use Rattle.gtfs_advice.specs.NumberMarks.{AreMarks, is_directed, route_if};
 ghost use Rattle.gtfs_advice.specs.Routes.{brightness, has_close_colours, is_garbled_route, has_long_short_name, is_named_as_another, is_of_route, repeats_short_name};

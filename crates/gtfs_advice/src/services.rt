@@ -1,7 +1,7 @@
 //! Services without trips.
 ghost use Rattle.std.specs.Prelude.{◌≡◌, ◌<◌, ◌∷◌, [], ◌&&◌, ◌==◌, false, filter, not, IfOk, OnOk, length};
 ghost use Rattle.gtfs_rows.specs.Content.{Content};
-ghost use Rattle.gtfs_rows.specs.Views.{IsSoundParts, content_of_parts, service_of};
+ghost use Rattle.gtfs_rows.specs.RowsInMemory.{IsSoundParts, content_of_parts, service_of};
 ghost use Rattle.gtfs_advice.specs.Advice.{Tells, advice_on, calendar_advice, date_advice};
 ghost use Rattle.gtfs_advice.specs.Services.{has_no_trip};
 ghost use Rattle.gtfs_advice.specs.UsedServices.{AreServiceMarks, stands_under};

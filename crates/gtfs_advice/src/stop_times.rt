@@ -1,7 +1,7 @@
 ghost use Rattle.std.specs.Prelude.{◌≡◌, ◌<◌, IfOk, OnOk, Some, length, map, slice_get};
 ghost use Rattle.gtfs_advice.specs.Advice.{Tells, answers_of, stop_time_advice, stop_time_rules};
 ghost use Rattle.gtfs_rows.specs.Rows.{Trip};
-ghost use Rattle.gtfs_rows.specs.Views.{content_of_parts, stop_row_of};
+ghost use Rattle.gtfs_rows.specs.RowsInMemory.{content_of_parts, stop_row_of};
 ghost use Rattle.gtfs_rows.specs.declared.parts.Parts.{Parts};
 ghost use Rattle.gtfs_advice.specs.StopTimes.{stops_twice_in_a_row, has_six_stops_at_one_moment, is_at_one_moment, is_faster_than_a_train, has_closed_stop, is_longer_than_a_day};
 ghost use Rattle.gtfs_advice.specs.NumberedRows.{are_too_fast, have_one_stop, GoesAlong, is_closed_row, latitude_of, latitude_there, of_two_rows};

@@ -1,10 +1,10 @@
 ghost use Rattle.std.specs.Prelude.{◌≡◌, ◌==◌, ◌<◌, ◌&&◌, ◌||◌, true, false, nat_eq, ℕ, List, All, length, slice_index_or, is_some, option_map, Some, IfOk, OnOk};
 ghost use Rattle.std.specs.List.{list_all, list_any};
 ghost use Rattle.std.specs.Option.{option_eq};
-ghost use Rattle.gtfs_schema.specs.Values.{if_both};
+ghost use Rattle.gtfs_schema.specs.FieldValues.{if_both};
 ghost use Rattle.gtfs_rows.specs.NamedRows.{stop_named};
 ghost use Rattle.gtfs_rows.specs.Trips.{stop_rows_by_trip};
-ghost use Rattle.gtfs_rows.specs.Views.{IsSoundParts, content_of_parts, names_stop, stop_of};
+ghost use Rattle.gtfs_rows.specs.RowsInMemory.{IsSoundParts, content_of_parts, names_stop, stop_of};
 ghost use Rattle.gtfs_advice.specs.Advice.{Tells, answers_of, stop_advice, stop_rules};
 ghost use Rattle.gtfs_advice.specs.NumberMarks.{AreMarks, station_of};
 ghost use Rattle.gtfs_advice.specs.Stops.{calls_at, differ_by_more, is_far, is_far_from_parent, is_odd_place, is_part_of};

@@ -1,7 +1,7 @@
 ghost use Rattle.std.specs.Prelude.{◌≡◌, ◌<◌, IfOk, length, option_map};
 ghost use Rattle.std.specs.Cmp.Lexicographic.{slice_cmp};
 ghost use Rattle.std.specs.List.Sorted.{IsPermutation, IsSorted};
-ghost use Rattle.gtfs_rows.specs.Choices.{timepoint_code};
+ghost use Rattle.gtfs_rows.specs.RowChoices.{timepoint_code};
 ghost use Rattle.gtfs_rows.specs.NamedRows.{text_of_number};
 ghost use Rattle.gtfs_advice.specs.TripCourses.{AreCourses, IsCourse, call_cmp, course_cmp, headsign_cmp, is_repeat, listed_cmp, period_cmp, place_cmp};
 

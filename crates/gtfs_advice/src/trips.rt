@@ -1,6 +1,6 @@
 ghost use Rattle.std.specs.Prelude.{◌≡◌, ◌<◌, OnOk, Some, length, slice_get};
 ghost use Rattle.gtfs_rows.specs.Rows.{Trip as ContentTrip};
-ghost use Rattle.gtfs_rows.specs.Views.{content_of_parts};
+ghost use Rattle.gtfs_rows.specs.RowsInMemory.{content_of_parts};
 ghost use Rattle.gtfs_rows.specs.declared.parts.Parts.{Parts};
 ghost use Rattle.gtfs_advice.specs.Advice.{Tells, answers_of, trip_advice, trip_rules};
 ghost use Rattle.gtfs_advice.specs.TripCourses.{AreRepeats};

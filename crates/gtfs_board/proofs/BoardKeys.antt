@@ -10,7 +10,7 @@ use Rattle.std.specs.declared.cmp.Ordering.TheVariants.{Less}
 use Rattle.gtfs_field.proofs.OrderingFacts.{equal}
 use Rattle.gtfs_rows.proofs.SameElements.{pairs-map}
 use Rattle.gtfs_rows.specs.Content.{Content}
-use Rattle.gtfs_rows.specs.Order.{Ascends}
+use Rattle.gtfs_rows.specs.TransferOrder.{Ascends}
 use Rattle.gtfs_field.specs.TextOrder.{text_cmp}
 use Rattle.gtfs_schema.proofs.BoolFacts.{same_test as same_tests}
 use Rattle.gtfs_board.specs.CandidateKeys.{key_among}
@@ -18,8 +18,8 @@ use Rattle.gtfs_rows.specs.Departures.{IsBoard, Origins, is_listed, is_member}
 use Rattle.gtfs_rows.specs.Key.{Key, key_cmp}
 use Rattle.gtfs_board.specs.declared.upcoming.candidate.Candidate.{Candidate}
 use Rattle.gtfs_board.specs.upcoming.Candidates.{candidate_lt}
-use Rattle.gtfs_board.specs.upcoming.Lanes.{rest_of}
-use Rattle.gtfs_board.specs.upcoming.Order.{Each, In, AscendsBy}
+use Rattle.gtfs_board.specs.upcoming.OpenedLanes.{rest_of}
+use Rattle.gtfs_board.specs.upcoming.QueueOrder.{Each, In, AscendsBy}
 use Rattle.gtfs_board.proofs.CandidateKeys.{key_rises}
 use Rattle.gtfs_board.proofs.Candidates.{candidates_strict}
 use Rattle.gtfs_board.proofs.KeyOrder.{key_cmp_total, key_cmp-IsAntisymmetric}

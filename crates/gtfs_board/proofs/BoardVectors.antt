@@ -9,8 +9,8 @@ use Rattle.gtfs_board.specs.declared.departure.Mark.TheVariants as mark
 use Rattle.gtfs_board.specs.Board.{width}
 use Rattle.gtfs_rows.specs.Departures.{is_departure, is_listed}
 use Rattle.gtfs_rows.specs.Key.{Key}
-use Rattle.gtfs_board.specs.Lines.{Listed}
-use Rattle.gtfs_board.specs.Shown.{mark_of, shown}
+use Rattle.gtfs_board.specs.BoardLines.{Listed}
+use Rattle.gtfs_board.specs.ShownTrips.{mark_of, shown}
 
 abbrev stop : List ℕ → Stop
 stop id = record {

@@ -10,7 +10,7 @@ use Rattle.gtfs_field.proofs.NumberFacts.{cases_int}
 use Rattle.gtfs_field.proofs.OrderingFacts.{less, tied as parts}
 use Rattle.gtfs_board.specs.declared.upcoming.candidate.Candidate.{Candidate}
 use Rattle.gtfs_board.specs.upcoming.Candidates.{candidate_cmp, candidate_lt}
-use Rattle.gtfs_board.specs.upcoming.Order.{IsStrict}
+use Rattle.gtfs_board.specs.upcoming.QueueOrder.{IsStrict}
 
 tied : (r s : Ordering) → r ≡ ordering_reverse s → is_lt r ≡ false → is_lt s ≡ false → r ≡ Equal
 tied r Less e h k = absurd (true≢false k)

@@ -8,7 +8,7 @@ use Rattle.std.proofs.lemmas.List.Sums.{fold-append}
 use Rattle.std.proofs.lemmas.List.{map-append}
 use Rattle.gtfs_field.proofs.ListFacts.{range-push}
 use Rattle.gtfs_board.specs.declared.upcoming.candidate.Candidate.{Candidate}
-use Rattle.gtfs_board.specs.upcoming.Lanes.{Events}
+use Rattle.gtfs_board.specs.upcoming.OpenedLanes.{Events}
 use Rattle.gtfs_board.specs.upcoming.Candidates.{candidate_lt, heads_on, least_from}
 
 pub heads_on-none : (events : Events Candidate) (floor : Candidate) (day : ℤ) → heads_on events floor day 0 ≡ []

@@ -13,16 +13,17 @@ use Rattle.std.specs.declared.cmp.Ordering.TheVariants.{Less, Equal}
 use Rattle.gtfs_field.proofs.OrderingFacts.{equal}
 use Rattle.gtfs_field.specs.TextOrder.{text_cmp}
 use Rattle.gtfs_schema.proofs.SiteFacts.{text_is, text_itself}
-use Rattle.gtfs_schema.specs.Values.{if_there}
+use Rattle.gtfs_schema.specs.FieldValues.{if_there}
 use Rattle.gtfs_rows.specs.Content.{Content}
-use Rattle.gtfs_rows.specs.Order.{Ascends}
+use Rattle.gtfs_rows.specs.TransferOrder.{Ascends}
 use Rattle.gtfs_rows.specs.Rows.{StopRow, Trip}
-use Rattle.gtfs_rows.specs.Views.{text_of_number, trip_of, trips_of}
+use Rattle.gtfs_rows.specs.RowsInMemory.{text_of_number, trip_of, trips_of}
 use Rattle.gtfs_rows.specs.declared.frequency.Frequency.{Frequency as PeriodRow}
 use Rattle.gtfs_rows.specs.declared.parts.Parts.{Parts}
 use Rattle.gtfs_stop_times.specs.declared.stop_row.StopRow.{StopRow as StopTime}
 use Rattle.gtfs_rows.specs.declared.trip.Trip.{Trip as TripRow}
-use Rattle.gtfs_runs.specs.Counts.{is_same, tally}
+use Rattle.gtfs_runs.specs.EventOrder.{is_same}
+use Rattle.gtfs_runs.specs.Tallies.{tally}
 use Rattle.gtfs_runs.specs.Events.{is_event}
 use Rattle.gtfs_rows.specs.Places.{is_in_place}
 use Rattle.gtfs_runs.specs.StopLanes.{AreLanesOf, LaneValue, StopLanesValue, events_of_service, lanes_of}
@@ -31,7 +32,7 @@ use Rattle.gtfs_runs.specs.declared.event.Event.{Event}
 use Rattle.gtfs_runs.proofs.Counting.{same-is as event_same, same-self as same_itself}
 use Rattle.gtfs_runs.proofs.Tallies.{tally-append as tally_more}
 use Rattle.gtfs_board.specs.LaneDays.{lane_at, no_lane}
-use Rattle.gtfs_board.specs.upcoming.Order.{In}
+use Rattle.gtfs_board.specs.upcoming.QueueOrder.{In}
 use Rattle.gtfs_board.proofs.LaneDays.{flat_map-in}
 use Rattle.gtfs_board.proofs.Rests.{filter-in}
 

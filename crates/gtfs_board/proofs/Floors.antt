@@ -10,8 +10,8 @@ use Rattle.std.proofs.lemmas.Int.{ints}
 use Rattle.std.proofs.Math.Bool.{and-false as and_false, and-true as and_true}
 use Rattle.gtfs_field.proofs.NumberFacts.{cases_int, int_le-true, le-int_le}
 use Rattle.gtfs_runs.proofs.TripIds.{between, same_firsts, then_less}
-use Rattle.gtfs_rows.specs.Order.{Ascends}
-use Rattle.gtfs_rows.specs.Views.{text_of_number}
+use Rattle.gtfs_rows.specs.TransferOrder.{Ascends}
+use Rattle.gtfs_rows.specs.RowsInMemory.{text_of_number}
 use Rattle.gtfs_field.specs.TextOrder.{text_cmp}
 use Rattle.gtfs_board.specs.CandidateKeys.{key_among}
 use Rattle.gtfs_rows.specs.Departures.{is_above}

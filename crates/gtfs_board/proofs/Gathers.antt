@@ -5,8 +5,9 @@ use Rattle.std.specs.Int.{int_min}
 use Rattle.std.specs.Option.{option_to_list}
 use Rattle.std.proofs.lemmas.Int.{ints, clamps}
 use Rattle.gtfs_board.specs.declared.upcoming.candidate.Candidate.{Candidate}
-use Rattle.gtfs_board.specs.upcoming.Order.{In, Each, tally}
-use Rattle.gtfs_board.specs.upcoming.Lanes.{Events, AreLanes, AreHeads, is_opened, AreStepsFew}
+use Rattle.gtfs_runs.specs.Tallies.{tally}
+use Rattle.gtfs_board.specs.upcoming.QueueOrder.{In, Each}
+use Rattle.gtfs_board.specs.upcoming.OpenedLanes.{Events, AreLanes, AreHeads, is_opened, AreStepsFew}
 use Rattle.gtfs_board.specs.upcoming.Candidates.{candidate_lt, heads_on, least_from, day_of, lane_of, instant_of, IsWithin, AreGathered}
 use Rattle.gtfs_board.proofs.Orders.{find-in, Each-in}
 use Rattle.gtfs_board.proofs.Heads.{head-found}

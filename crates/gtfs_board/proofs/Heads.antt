@@ -4,8 +4,9 @@ use Rattle.std.specs.Option.{option_to_list}
 use Rattle.std.proofs.lemmas.Int.{ints}
 use Rattle.std.proofs.lemmas.Bool.{true≢false, false≢true, cases_Bool, cases_eq}
 use Rattle.gtfs_field.proofs.NumberFacts.{cases_int, int_lt-true, lt-int_lt}
-use Rattle.gtfs_board.specs.upcoming.Order.{IsStrict, In, Each, same, tally, holds, IsUpward}
-use Rattle.gtfs_board.specs.upcoming.Lanes.{Events, AreLanes, is_head, AreHeads}
+use Rattle.gtfs_runs.specs.Tallies.{tally}
+use Rattle.gtfs_board.specs.upcoming.QueueOrder.{IsStrict, In, Each, same, holds, IsUpward}
+use Rattle.gtfs_board.specs.upcoming.OpenedLanes.{Events, AreLanes, is_head, AreHeads}
 use Rattle.gtfs_board.proofs.Orders.{Each-in, find-agree, find-in, same-self, same-is, find-least}
 use Rattle.gtfs_board.proofs.Ints.{cases_same_int}
 

@@ -11,7 +11,7 @@ use Rattle.gtfs_days.specs.declared.civil.Civil.{Civil}
 use Rattle.gtfs_field.specs.Canonical.{date_text}
 use Rattle.gtfs_rows.specs.Key.{Key}
 use Rattle.gtfs_board.specs.KeyTexts.{key_text}
-use Rattle.gtfs_board.specs.Lines.{Listed, clock_text, line_text, mark_text}
+use Rattle.gtfs_board.specs.BoardLines.{Listed, clock_text, line_text, mark_text}
 
 -- a piece, and then the rest
 pub joined : (old mid new piece rest : List ℕ) → mid ≡ old ++ piece → new ≡ mid ++ rest → new ≡ old ++ (piece ++ rest)

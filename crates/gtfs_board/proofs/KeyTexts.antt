@@ -19,7 +19,7 @@ use Rattle.gtfs_field.proofs.Wides.{wide-digits}
 use Rattle.gtfs_field.proofs.Choices.{shaped-true, within-true}
 use Rattle.gtfs_rows.specs.Key.{Key, IsInRange, last_run, last_sequence}
 use Rattle.gtfs_board.specs.KeyTexts.{key_text, key_of, plain_up_to, and_then}
-use Rattle.gtfs_board.specs.Parts.{LacksSlash, AreTexts}
+use Rattle.gtfs_board.specs.KeyParts.{LacksSlash, AreTexts}
 use Rattle.gtfs_board.proofs.Slashes.{digits-lack_slash, parts}
 
 -- ---- results that go by tests

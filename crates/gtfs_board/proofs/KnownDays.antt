@@ -7,12 +7,12 @@ use Rattle.std.proofs.lemmas.Int.{ints}
 use Rattle.gtfs_field.proofs.NumberFacts.{int_lt-true}
 use Rattle.gtfs_days.specs.Service.{first_service_day, last_service_day, service_days}
 use Rattle.gtfs_days.specs.Zone.{zone_origin}
-use Rattle.gtfs_board.specs.Days.{all_of, count_of, events_of}
+use Rattle.gtfs_board.specs.UpcomingDays.{all_of, count_of, events_of}
 use Rattle.gtfs_board.specs.declared.service_days.Days.{Days}
 use Rattle.gtfs_board.specs.declared.upcoming.candidate.Candidate.{Candidate}
 use Rattle.gtfs_board.specs.upcoming.Candidates.{AreDepartures, candidate_lt, heads_on}
-use Rattle.gtfs_board.specs.upcoming.Lanes.{Events}
-use Rattle.gtfs_board.specs.upcoming.Order.{In}
+use Rattle.gtfs_board.specs.upcoming.OpenedLanes.{Events}
+use Rattle.gtfs_board.specs.upcoming.QueueOrder.{In}
 use Rattle.gtfs_board.proofs.Days.{heads_on-more, heads_on-none}
 use Rattle.gtfs_board.proofs.LaneDays.{all_there, events_end, events_timely, lanes_ascend, none_before, none_beyond}
 use Rattle.gtfs_board.proofs.Orders.{find-none}

@@ -7,13 +7,13 @@ use Rattle.std.proofs.lemmas.Int.{ints, clamps, to_z-of_z}
 use Rattle.std.proofs.lemmas.Bool.{cases_Bool, cases_lt, true≢false, and_parts}
 use Rattle.std.proofs.lemmas.List.{get_or_past, length-map}
 use Rattle.jiff_core.specs.Calendar.{IsWithin}
-use Rattle.gtfs_schema.specs.Values.{if_there}
+use Rattle.gtfs_schema.specs.FieldValues.{if_there}
 use Rattle.gtfs_days.proofs.Clocks.{zone_origin-near}
 use Rattle.gtfs_days.specs.Service.{IsFirst, ServiceDates, is_active, is_service_day, first_service_day, last_service_day, service_days}
 use Rattle.gtfs_days.specs.Zone.{zone_origin}
 use Rattle.gtfs_days.specs.declared.zone.Zone.{Zone}
 use Rattle.gtfs_rows.proofs.SameElements.{pairs-head, pairs-tail}
-use Rattle.gtfs_rows.specs.Order.{Ascends}
+use Rattle.gtfs_rows.specs.TransferOrder.{Ascends}
 use Rattle.gtfs_rows.specs.declared.parts.Parts.{Parts}
 use Rattle.gtfs_rows.specs.declared.service.ServiceRow.{ServiceRow}
 use Rattle.std.specs.declared.cmp.Ordering.{Ordering}
@@ -24,7 +24,7 @@ use Rattle.std.proofs.lemmas.Bool.{cases_order}
 use Rattle.std.proofs.lemmas.Cmp.{int_cmp_total, nat_cmp_total}
 use Rattle.gtfs_field.proofs.NumberFacts.{cases_int, int_le-true, le-int_le}
 use Rattle.gtfs_days.proofs.ActiveDays.{before_service as day_too_early}
-use Rattle.gtfs_runs.specs.Order.{event_cmp, is_above_moment, is_later}
+use Rattle.gtfs_runs.specs.EventOrder.{event_cmp, is_above_moment, is_later}
 use Rattle.gtfs_runs.specs.declared.moment.Moment.{Moment}
 use Rattle.gtfs_runs.specs.StopLanes.{StopLanesValue, lanes_of}
 use Rattle.gtfs_runs.specs.declared.event.Event.{Event}
@@ -32,8 +32,8 @@ use Rattle.gtfs_rows.specs.Departures.{Origins}
 use Rattle.gtfs_board.specs.LaneDays.{departing, event_of, serves_on, no_lane, lane_at, ends_by, departures_on, departures_of_day, all_departures, AreAscending, AreTimely}
 use Rattle.gtfs_board.specs.declared.upcoming.candidate.Candidate.{Candidate}
 use Rattle.gtfs_board.specs.upcoming.Candidates.{candidate_lt, IsAside, AreCandidateLanes, AreFromOrigin, EndsBy, day_of, lane_of, first_above}
-use Rattle.gtfs_board.specs.upcoming.Lanes.{AreAll}
-use Rattle.gtfs_board.specs.upcoming.Order.{In, Each, AscendsBy}
+use Rattle.gtfs_board.specs.upcoming.OpenedLanes.{AreAll}
+use Rattle.gtfs_board.specs.upcoming.QueueOrder.{In, Each, AscendsBy}
 use Rattle.gtfs_board.proofs.Candidates.{candidates_strict, not_lt-instant}
 use Rattle.gtfs_board.proofs.Orders.{Each-in, each-all, find-agree, in-left, in-right, in-either}
 use Rattle.gtfs_board.proofs.Rests.{in-filter, filter-in}

@@ -7,7 +7,7 @@ use Rattle.std.proofs.lemmas.Bool.{and_parts, cases_Bool, false≢true, le-leb, 
 use Rattle.std.proofs.Math.Bool.{or-false as or_none}
 use Rattle.gtfs_field.proofs.NumberFacts.{cases_up_to as upto_cases}
 use Rattle.gtfs_rows.specs.declared.frequency.Frequency.{Frequency}
-use Rattle.gtfs_rows.specs.Views.{frequency_of}
+use Rattle.gtfs_rows.specs.RowsInMemory.{frequency_of}
 use Rattle.gtfs_rows.specs.Trips.{ArePeriods}
 use Rattle.gtfs_rows.specs.Runs.{starts_run}
 

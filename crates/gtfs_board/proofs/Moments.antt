@@ -9,7 +9,7 @@ use Rattle.std.specs.Ordering.{nat_cmp, int_cmp, is_lt, ordering_then}
 use Rattle.std.specs.declared.cmp.Ordering.{Ordering}
 use Rattle.std.specs.declared.cmp.Ordering.TheVariants.{Less, Equal, Greater}
 use Rattle.gtfs_field.proofs.NumberFacts.{cases_int}
-use Rattle.gtfs_runs.specs.Order.{is_above_moment}
+use Rattle.gtfs_runs.specs.EventOrder.{is_above_moment}
 use Rattle.gtfs_runs.specs.declared.event.Event.{Event}
 use Rattle.gtfs_runs.specs.declared.moment.Moment.{Moment}
 use Rattle.gtfs_board.specs.LaneDays.{departing}

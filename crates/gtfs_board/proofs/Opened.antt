@@ -24,9 +24,9 @@ use Rattle.gtfs_rows.specs.Trips.{frequencies_by_trip, stop_rows_by_trip}
 use Rattle.gtfs_rows.proofs.Held.{apart}
 use Rattle.gtfs_rows.proofs.SameElements.{pairs-head, pairs-tail}
 use Rattle.gtfs_rows.specs.Content.{Content}
-use Rattle.gtfs_rows.specs.Order.{Ascends}
+use Rattle.gtfs_rows.specs.TransferOrder.{Ascends}
 use Rattle.gtfs_rows.specs.Rows.{Stop, StopRow, Trip}
-use Rattle.gtfs_rows.specs.Views.{IsSoundParts, content_of_parts, service_ids, stop_ids, stop_of, stop_row_of, text_of_number, trip_ids}
+use Rattle.gtfs_rows.specs.RowsInMemory.{IsSoundParts, content_of_parts, service_ids, stop_ids, stop_of, stop_row_of, text_of_number, trip_ids}
 use Rattle.gtfs_rows.specs.declared.parts.Parts.{Parts}
 use Rattle.gtfs_runs.specs.StopLanes.{AreLanesOf, StopLanesValue, lanes_of}
 use Rattle.gtfs_field.specs.TextOrder.{text_cmp}
@@ -37,15 +37,15 @@ use Rattle.gtfs_rows.specs.Departures.{IsBoard, departs_at, is_above, is_member}
 use Rattle.gtfs_board.specs.Floors.{IsNumbered, is_from}
 use Rattle.gtfs_rows.specs.Key.{Key, key_cmp}
 use Rattle.gtfs_board.specs.LaneDays.{all_departures, lane_at}
-use Rattle.gtfs_board.specs.Opening.{IsOpen, board_value}
-use Rattle.gtfs_board.specs.Span.{is_span, is_writable}
+use Rattle.gtfs_board.specs.OpenedBoard.{IsOpen, board_value}
+use Rattle.gtfs_board.specs.BoardSpan.{is_span, is_writable}
 use Rattle.gtfs_board.specs.declared.span.Span.{Span}
-use Rattle.gtfs_board.specs.Showing.{IsOfFeed, candidate_key, listed_in, candidate_times, candidate_trip}
-use Rattle.gtfs_board.specs.Shown.{IsShown, row_numbered, shown, shown_at, trip_with_id}
+use Rattle.gtfs_board.specs.ShownCandidates.{IsOfFeed, candidate_key, listed_in, candidate_times, candidate_trip}
+use Rattle.gtfs_board.specs.ShownTrips.{IsShown, row_numbered, shown, shown_at, trip_with_id}
 use Rattle.gtfs_board.specs.declared.upcoming.candidate.Candidate.{Candidate}
 use Rattle.gtfs_board.specs.upcoming.Candidates as waiting
 use Rattle.gtfs_board.specs.upcoming.Candidates.{TakesFirst, UpcomingValue, candidate_lt, departure_cmp, head_of, lane_cmp, rest_above, steps_so_far}
-use Rattle.gtfs_board.specs.upcoming.Order.{Each, In, AscendsBy}
+use Rattle.gtfs_board.specs.upcoming.QueueOrder.{Each, In, AscendsBy}
 use Rattle.gtfs_board.proofs.BoardKeys.{board-of, in-member}
 use Rattle.gtfs_board.proofs.CandidateKeys.{compares}
 use Rattle.gtfs_board.proofs.EventFacts.{any_at, lane_there, map_at, trip_back}
@@ -171,7 +171,7 @@ keys_listed p (c ∷ cs) = ap (λ ks. candidate_key p c ∷ ks) (keys_listed p c
 
 -- ---- the bounds
 
-position_is : (p : Parts) (end : ℤ) (cs : List Candidate) → first_instant (end +ℤ pos 1) (map (listed_in p) cs) ≡ waiting.position end (head_of cs)
+position_is : (p : Parts) (end : ℤ) (cs : List Candidate) → first_instant (end +ℤ pos 1) (map (listed_in p) cs) ≡ waiting.instant_or_end end (head_of cs)
 position_is p end [] = omega (arith, ints)
 position_is p end (c ∷ cs) = refl
 
@@ -227,7 +227,7 @@ least_first p up (c ∷ cs) queue known a within same = (
   All-from_recursion (λ k. is_lt (key_cmp k (candidate_key p c)) ≡ false) (map (candidate_key p) queue) (each_from p up c cs queue known a within),
 )
 
-pub queued_is : (p : Parts) (z : Zone) (v : UpcomingValue) → Ascends text_cmp (trip_ids p) → IsOpen p v → waiting.IsQueued v → board.IsQueued (board_value p z v)
+pub queued_is : (p : Parts) (z : Zone) (v : UpcomingValue) → Ascends text_cmp (trip_ids p) → IsOpen p v → waiting.AreQueued v → board.IsQueued (board_value p z v)
 queued_is p z v up opened q = record {
   within = All-from_recursion (λ k. is_member k (keys_of (map (listed_in p) v.rest)) ≡ true) (map (candidate_key p) v.queue) (each_member p v.rest v.queue q.within);
   first = least_first p up v.rest v.queue opened.of_feed opened.ascending q.within q.same_first;

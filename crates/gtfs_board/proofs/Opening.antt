@@ -4,16 +4,13 @@ use Rattle.std.specs.List.{filter_map, cons_option, range_with_len}
 use Rattle.std.proofs.lemmas.Int.{ints}
 use Rattle.std.proofs.lemmas.Bool.{cases_Bool, cases_eq, cases_lt}
 use Rattle.gtfs_field.proofs.NumberFacts.{cases_int, lt-int_lt}
-use Rattle.gtfs_board.specs.upcoming.Order.{IsStrict, same, tally, holds}
-use Rattle.gtfs_board.specs.upcoming.Lanes.{Events, AreLanes, AreHeads}
+use Rattle.gtfs_runs.specs.Tallies.{tally}
+use Rattle.gtfs_runs.proofs.Tallies.{tally-append}
+use Rattle.gtfs_board.specs.upcoming.QueueOrder.{IsStrict, same, holds}
+use Rattle.gtfs_board.specs.upcoming.OpenedLanes.{Events, AreLanes, AreHeads}
 use Rattle.gtfs_board.proofs.Orders.{find-in}
 use Rattle.gtfs_board.proofs.Heads.{holds-some}
 use Rattle.gtfs_board.proofs.Ints.{le-int_lt, cases_same_int}
-
-module _ {C : Type 0} (p : C → Bool) where
-  pub tally-append : (xs ys : List C) → tally p (xs ++ ys) ≡ tally p xs + tally p ys
-  tally-append [] ys = omega arith
-  tally-append (x ∷ xs) ys = rw (tally-append xs ys) (omega arith)
 
 module _ {C : Type 0} {lt : C → C → Bool} {instant day : C → ℤ} {lane : C → ℕ} {count latest : ℕ} {events : Events C}
     (o : IsStrict lt) (ls : AreLanes lt instant day lane count latest events) (p : C → Bool) where

@@ -2,7 +2,7 @@ use Rattle.std.specs.List.{All, AllByRecursion}
 use Rattle.std.proofs.Common.{◌≡◌, Bool, true, false, List, [], ◌∷◌, ◌++◌, ◌⊎◌, inl, inr, Some, None, refl, sym, ◌∙◌, ap, subst, arith, find}
 use Rattle.std.proofs.lemmas.List.Elements.{All-tail}
 use Rattle.std.proofs.lemmas.Bool.{true≢false, false≢true, cases_Bool}
-use Rattle.gtfs_board.specs.upcoming.Order.{IsStrict, In, Each, AscendsBy, same, IsUpward}
+use Rattle.gtfs_board.specs.upcoming.QueueOrder.{IsStrict, In, Each, AscendsBy, same, IsUpward}
 
 module _ {C : Type 0} (P : C → Type 0) where
   pub Each-in : (xs : List C) (x : C) → Each P xs → In x xs → P x

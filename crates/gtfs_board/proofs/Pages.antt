@@ -7,8 +7,8 @@ use Rattle.gtfs_days.specs.Zone.{IsCivil}
 use Rattle.gtfs_days.specs.declared.civil.Civil.{Civil}
 use Rattle.gtfs_days.specs.declared.zone.Zone.{Zone}
 use Rattle.gtfs_board.specs.Board.{AreStepsWithin, BoardValue, SameSettings, StepCount}
-use Rattle.gtfs_board.specs.Lines.{AppendsLine, IsLine, Listed, line_text}
-use Rattle.gtfs_board.specs.Page.{AreLines, AreWritten, IsCutShort, IsPage, IsStopped}
+use Rattle.gtfs_board.specs.BoardLines.{AppendsLine, IsLine, Listed, line_text}
+use Rattle.gtfs_board.specs.BoardPage.{AreLines, AreWritten, IsCutShort, IsPage, IsStopped}
 use Rattle.gtfs_board.specs.PageFaults.{AreFaultSteps, AreLineFaultSteps, EndsLine, EndsPage, IsCounted}
 use Rattle.gtfs_board.specs.declared.page.PageFault.{PageFault}
 use Rattle.gtfs_board.specs.declared.page.PageFault.TheVariants.{Out, OutOfMemory}

@@ -13,20 +13,18 @@ use Rattle.std.proofs.Math.Seq.{get_or-append_seam}
 use Rattle.std.proofs.lemmas.List.{get_or_append_left}
 use Rattle.std.proofs.lemmas.Option.{get_or_from_slice_get, slice_get_cases, slice_get_read}
 use Rattle.gtfs_board.specs.declared.upcoming.candidate.Candidate.{Candidate}
-use Rattle.gtfs_board.specs.upcoming.Order.{In, Each, same, tally}
+use Rattle.gtfs_runs.specs.Tallies.{tally}
+use Rattle.gtfs_runs.proofs.Tallies.{tally-append, tally-permutation}
+use Rattle.gtfs_board.specs.upcoming.QueueOrder.{In, Each, same}
 use Rattle.gtfs_board.specs.upcoming.Candidates.{AreHeadedBy, HaveSameMembers, IsFirst, candidate_cmp, candidate_lt}
 use Rattle.gtfs_board.proofs.Orders.{Each-in, each-all, in-left, in-right}
 use Rattle.gtfs_board.proofs.Heads.{in-from_tally}
-use Rattle.gtfs_board.proofs.Opening.{tally-append}
 use Rattle.gtfs_board.proofs.Window.{each_in, each_weaker, in_tally}
 use Rattle.gtfs_board.proofs.Candidates.{candidates_strict, candidates_total}
 
 pub tally_sum : {C : Type 0} (p : C → Bool) (xs : List C) → sum_by (λ x. cond (p x) 1 0) xs ≡ tally p xs
 tally_sum p [] = refl
 tally_sum p (x ∷ xs) = sum_by-cons (λ x. cond (p x) 1 0) x xs ∙ ap (λ n. cond (p x) 1 0 + n) (tally_sum p xs)
-
-pub tally-permutation : {C : Type 0} (p : C → Bool) (xs ys : List C) → IsPermutation xs ys → tally p ys ≡ tally p xs
-tally-permutation p xs ys h = sym (tally_sum p ys) ∙ sum_by-IsPermutation (λ x. cond (p x) 1 0) xs ys h ∙ tally_sum p xs
 
 -- what is counted alike stands in both
 pub in_alike : (xs ys : List Candidate) → ((x : Candidate) → tally (same candidate_lt x) ys ≡ tally (same candidate_lt x) xs) → (x : Candidate) → In x ys → In x xs

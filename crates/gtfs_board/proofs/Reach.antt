@@ -3,9 +3,10 @@ use Rattle.std.specs.Prelude.{ℤ, pos, ◌+ℤ◌, ◌*ℤ◌, int_lt, int_le, 
 use Rattle.std.proofs.lemmas.Int.{ints}
 use Rattle.std.proofs.lemmas.Bool.{cases_Bool, and_parts, and_from}
 use Rattle.gtfs_field.proofs.NumberFacts.{cases_int, int_le-true, int_lt-true, le-int_le, lt-int_lt}
-use Rattle.gtfs_board.specs.upcoming.Order.{In, Each, tally}
+use Rattle.gtfs_runs.specs.Tallies.{tally}
+use Rattle.gtfs_board.specs.upcoming.QueueOrder.{In, Each}
 use Rattle.gtfs_board.specs.Board.{may_be_opened}
-use Rattle.gtfs_board.specs.upcoming.Lanes.{is_opened}
+use Rattle.gtfs_board.specs.upcoming.OpenedLanes.{is_opened}
 use Rattle.gtfs_board.proofs.Window.{tally-weaker, each_in}
 use Rattle.gtfs_board.proofs.Ints.{le-int_lt}
 use Rattle.gtfs_board.proofs.Orders.{Each-in as Each_at}

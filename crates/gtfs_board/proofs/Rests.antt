@@ -1,8 +1,8 @@
 use Rattle.std.proofs.Common.{◌≡◌, Bool, true, List, [], ◌∷◌, ◌⊎◌, inl, inr, refl, sym, ◌∙◌, ap, subst}
 use Rattle.std.specs.List.{filter}
 use Rattle.std.proofs.lemmas.Bool.{false≢true, cases_Bool}
-use Rattle.gtfs_board.specs.upcoming.Order.{IsStrict, In, AscendsBy, IsUpward, put_in, ascending_by}
-use Rattle.gtfs_board.specs.upcoming.Lanes.{rest_of}
+use Rattle.gtfs_board.specs.upcoming.QueueOrder.{IsStrict, In, AscendsBy, IsUpward, put_in, ascending_by}
+use Rattle.gtfs_board.specs.upcoming.OpenedLanes.{rest_of}
 use Rattle.gtfs_board.proofs.Orders.{Each-in}
 use Rattle.gtfs_board.proofs.Window.{each_in, each_weaker}
 

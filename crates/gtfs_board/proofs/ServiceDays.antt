@@ -5,7 +5,7 @@ use Rattle.std.specs.List.{range_with_len}
 use Rattle.std.proofs.lemmas.Int.{ints}
 use Rattle.gtfs_field.proofs.NumberFacts.{cases_int}
 use Rattle.gtfs_days.specs.Service.{first_service_day, last_service_day, service_day_count, service_days}
-use Rattle.gtfs_board.specs.upcoming.Order.{In}
+use Rattle.gtfs_board.specs.upcoming.QueueOrder.{In}
 
 abbrev days_from : ℤ → ℕ → ℕ → List ℤ
 days_from first a n = map (λ i. first +ℤ pos i) (range_with_len a n)

@@ -14,9 +14,9 @@ use Rattle.std.proofs.lemmas.List.FromFn.{map-range_with_len_more}
 use Rattle.std.proofs.lemmas.Option.{get_or_from_slice_get, slice_get-get_or}
 use Rattle.std.proofs.lemmas.Bool.{cases_Bool, true≢false}
 use Rattle.std.proofs.lemmas.List.Sorted.{ranks_by, sorted_far}
-use Rattle.gtfs_runs.specs.Counts.{tally}
+use Rattle.gtfs_runs.specs.Tallies.{tally}
 use Rattle.gtfs_runs.proofs.Tallies.{counted}
-use Rattle.gtfs_board.specs.upcoming.Order.{In, Each, AscendsBy}
+use Rattle.gtfs_board.specs.upcoming.QueueOrder.{In, Each, AscendsBy}
 
 -- ---- members
 

@@ -19,31 +19,31 @@ use Rattle.std.proofs.lemmas.List.Sorted.{Contains-permutation, IsPermutation-sy
 use Rattle.std.proofs.lemmas.Option.{get_or_from_slice_get, slice_get-get_or, slice_get_within}
 use Rattle.std.proofs.lemmas.Simd.{map-map}
 use Rattle.gtfs_field.proofs.OrderingFacts.{tied}
-use Rattle.gtfs_schema.specs.Values.{if_there}
+use Rattle.gtfs_schema.specs.FieldValues.{if_there}
 use Rattle.gtfs_table.proofs.PartFacts.{length-parts}
 use Rattle.gtfs_field.specs.TextOrder.{text_cmp}
 use Rattle.gtfs_rows.proofs.SameElements.{pairs-head, pairs-map, pairs-tail}
-use Rattle.gtfs_rows.specs.Choices.{direction_code}
-use Rattle.gtfs_rows.specs.Order.{Ascends}
+use Rattle.gtfs_rows.specs.RowChoices.{direction_code}
+use Rattle.gtfs_rows.specs.TransferOrder.{Ascends}
 use Rattle.gtfs_rows.specs.Rows.{Trip}
-use Rattle.gtfs_rows.specs.Views.{IsSoundParts, content_of_parts, stop_ids, stop_row_of, text_of_number}
+use Rattle.gtfs_rows.specs.RowsInMemory.{IsSoundParts, content_of_parts, stop_ids, stop_row_of, text_of_number}
 use Rattle.gtfs_stop_times.specs.declared.numbers.StopNo.{StopNo}
 use Rattle.gtfs_rows.specs.declared.numbers.TripNo.{TripNo}
 use Rattle.gtfs_rows.specs.declared.parts.Parts.{Parts}
 use Rattle.gtfs_rows.proofs.SoundOrder.{in_order}
 use Rattle.gtfs_rows.proofs.TripFacts.{stop_times}
 use Rattle.gtfs_rows.specs.Trips.{stop_rows_by_trip}
-use Rattle.gtfs_runs.specs.Counts.{tally}
+use Rattle.gtfs_runs.specs.Tallies.{tally}
 use Rattle.gtfs_runs.specs.Lanes.{stops_of}
 use Rattle.gtfs_runs.specs.Patterns.{ArePatterns, Entry, Heading, headings_change, entries_of, entries_under, entry_cmp, entry_of, heading_of, has_a_trip, is_of_route, is_same_heading, rows_of_number, stops_cmp}
 use Rattle.gtfs_runs.specs.declared.pattern.Pattern.{Pattern}
 use Rattle.gtfs_runs.proofs.Counting.{tally-map as tally-mapped}
 use Rattle.gtfs_runs.proofs.Tallies.{tally-append as tally-joined, tally-permutation as tally-permuted}
 use Rattle.gtfs_runs.proofs.CourseOrder.{pairs-right}
-use Rattle.gtfs_board.specs.SheetSteps.{HasRow, IsPattern, stops_along}
+use Rattle.gtfs_board.specs.TimetableColumns.{HasRow, IsPattern, stops_along}
 use Rattle.gtfs_board.specs.Timetable.{direction_rank, heading_cmp, is_heading_before}
 use Rattle.gtfs_board.specs.Timetable as timetable
-use Rattle.gtfs_board.specs.upcoming.Order.{In, AscendsBy, IsStrict}
+use Rattle.gtfs_board.specs.upcoming.QueueOrder.{In, AscendsBy, IsStrict}
 use Rattle.gtfs_runs.proofs.TripIds.{numbers}
 use Rattle.gtfs_board.proofs.Candidates.{strict_from_total}
 use Rattle.gtfs_board.proofs.EventFacts.{at_in, in_at}

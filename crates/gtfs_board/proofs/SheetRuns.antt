@@ -12,24 +12,24 @@ use Rattle.std.proofs.lemmas.Option.{get_or_from_slice_get, slice_get-get_or}
 use Rattle.std.proofs.Math.Bool.{and_comm as and_swap}
 use Rattle.gtfs_field.proofs.ListFacts.{mapped_at as at_map}
 use Rattle.gtfs_rows.specs.Rows.{Trip}
-use Rattle.gtfs_rows.specs.Views.{IsSoundParts, stop_row_of, trip_of}
+use Rattle.gtfs_rows.specs.RowsInMemory.{IsSoundParts, stop_row_of, trip_of}
 use Rattle.gtfs_rows.specs.declared.frequency.Frequency.{Frequency}
 use Rattle.gtfs_rows.specs.declared.parts.Parts.{Parts}
 use Rattle.gtfs_stop_times.specs.declared.stop_row.StopRow.{StopRow}
 use Rattle.gtfs_rows.specs.declared.trip.Trip.{Trip as TripRow}
 use Rattle.gtfs_rows.specs.Trips.{ArePeriods, frequencies_by_trip, stop_rows_by_trip}
 use Rattle.gtfs_stop_times.specs.RowTimes.{left_at}
-use Rattle.gtfs_runs.specs.Counts.{tally}
+use Rattle.gtfs_runs.specs.Tallies.{tally}
 use Rattle.gtfs_rows.specs.Runs.{is_run, passes_at, runs}
 use Rattle.gtfs_runs.proofs.Bounds.{IsPeriod, periods_within, rows_within}
 use Rattle.gtfs_runs.proofs.ContentRows.{no_run, own_run, period_run}
 use Rattle.gtfs_runs.proofs.RunStarts.{one_period, starts, within}
 use Rattle.gtfs_runs.proofs.Tallies.{tally-permutation as tally-permuted, tally-push}
 use Rattle.gtfs_runs.proofs.TripTimes.{at_most}
-use Rattle.gtfs_board.specs.SheetSteps.{is_same_column}
+use Rattle.gtfs_board.specs.TimetableColumns.{is_same_column}
 use Rattle.gtfs_board.specs.Timetable.{row_at, time_passed}
 use Rattle.gtfs_board.specs.declared.sheet.columns.RunColumn.{RunColumn}
-use Rattle.gtfs_board.specs.upcoming.Order.{In}
+use Rattle.gtfs_board.specs.upcoming.QueueOrder.{In}
 use Rattle.gtfs_board.proofs.LaneDays.{in-range}
 use Rattle.gtfs_board.proofs.Rests.{filter-in, in-filter}
 

@@ -5,12 +5,12 @@ use Rattle.std.proofs.Math.Nat.{add-mod_left}
 use Rattle.std.proofs.lemmas.Nat.{mod-mul-add}
 use Rattle.std.proofs.lemmas.Bool.{cases_Bool, eqb-true, leb-true}
 use Rattle.std.proofs.lemmas.Bool.Decides.{nat_tests}
-use Rattle.gtfs_rows.specs.Views.{frequency_of}
+use Rattle.gtfs_rows.specs.RowsInMemory.{frequency_of}
 use Rattle.gtfs_rows.specs.declared.frequency.Frequency.{Frequency}
-use Rattle.gtfs_runs.specs.Counts.{tally}
+use Rattle.gtfs_runs.specs.Tallies.{tally}
 use Rattle.gtfs_rows.specs.Runs.{starts_run}
 use Rattle.gtfs_runs.proofs.Tallies.{tally-push}
-use Rattle.gtfs_board.specs.SheetSteps.{is_same_column}
+use Rattle.gtfs_board.specs.TimetableColumns.{is_same_column}
 use Rattle.gtfs_board.specs.declared.sheet.columns.RunColumn.{RunColumn}
 
 -- a run starts at this second or a whole number of headways after it, before the end

@@ -15,14 +15,14 @@ use Rattle.std.proofs.lemmas.Option.{slice_get_within}
 use Rattle.std.proofs.lemmas.Simd.{map-map}
 use Rattle.gtfs_field.proofs.OrderingFacts.{equal, tied}
 use Rattle.gtfs_schema.proofs.SiteFacts.{text_is, text_itself}
-use Rattle.gtfs_schema.specs.Values.{if_there}
+use Rattle.gtfs_schema.specs.FieldValues.{if_there}
 use Rattle.gtfs_rows.proofs.NumberFacts.{trip_route}
 use Rattle.gtfs_rows.proofs.SoundOrder.{in_order}
 use Rattle.gtfs_rows.proofs.Held.{text_antisymmetric}
 use Rattle.gtfs_rows.proofs.SameElements.{pairs-map}
-use Rattle.gtfs_rows.specs.Order.{Ascends}
+use Rattle.gtfs_rows.specs.TransferOrder.{Ascends}
 use Rattle.gtfs_rows.specs.Rows.{Route, Trip}
-use Rattle.gtfs_rows.specs.Views.{IsSoundParts, content_of_parts, route_ids, route_of, stop_ids, text_of_number}
+use Rattle.gtfs_rows.specs.RowsInMemory.{IsSoundParts, content_of_parts, route_ids, route_of, stop_ids, text_of_number}
 use Rattle.gtfs_rows.specs.declared.parts.Parts.{Parts}
 use Rattle.gtfs_rows.specs.declared.route.Route.{Route as RouteRow}
 use Rattle.gtfs_runs.specs.Patterns.{ArePatterns, is_of_route, rows_of_number}
@@ -30,11 +30,11 @@ use Rattle.gtfs_rows.specs.Runs.{is_run, runs}
 use Rattle.gtfs_runs.specs.declared.pattern.Pattern.{Pattern}
 use Rattle.gtfs_field.specs.TextOrder.{text_cmp}
 use Rattle.gtfs_rows.specs.Departures.{runs_on}
-use Rattle.gtfs_board.specs.SheetSteps.{goes, is_idle, running_at, sheet_along, sheets_along}
+use Rattle.gtfs_board.specs.TimetableColumns.{goes, is_idle, running_at, sheet_along, sheets_along}
 use Rattle.gtfs_board.specs.Timetable.{SheetHeading, Run, Sheet, direction_at, direction_rank, has_heading, has_run_on, heading_cmp, sheet_heading, headings, is_heading_before, is_route, named_runs, row_at, running, runs_of, runs_under, sheet_under, sheets, time_passed, time_of_run, wants}
 use Rattle.gtfs_board.specs.declared.sheet.TableFault.{TableFault}
 use Rattle.gtfs_board.specs.declared.sheet.TableFault.TheVariants.{UnknownRoute}
-use Rattle.gtfs_board.specs.upcoming.Order.{In, IsStrict}
+use Rattle.gtfs_board.specs.upcoming.QueueOrder.{In, IsStrict}
 use Rattle.gtfs_board.proofs.Candidates.{strict_from_total}
 use Rattle.gtfs_runs.proofs.TripIds.{position_at, position_none, text_at}
 use Rattle.gtfs_board.proofs.EventFacts.{any_at, at_in, in_at, map_at, same_number}

@@ -12,7 +12,7 @@ use Rattle.std.specs.Str.Pattern.{RFindsChar, SplitsAroundMatch}
 use Rattle.std.proofs.lemmas.Str.Pattern.{IsSplitOnceResult, split_parts, NoCharPasses-char, drop_at_char}
 use Rattle.std.proofs.lemmas.List.Sums.{sum_by-append, sum_by-cons, suffix_len_is}
 use Rattle.gtfs_board.specs.KeyTexts.{is_slash, has_key_shape, after_instant, before_day, before_sequence}
-use Rattle.gtfs_board.specs.Parts.{LacksSlash, IsCutAtFirst, IsCutAtLast, AreTexts}
+use Rattle.gtfs_board.specs.KeyParts.{LacksSlash, IsCutAtFirst, IsCutAtLast, AreTexts}
 
 -- ---- texts without slashes
 

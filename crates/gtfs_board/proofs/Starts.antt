@@ -5,7 +5,7 @@ use Rattle.std.specs.Int.{int_max, int_min, int_div_euclid}
 use Rattle.std.proofs.lemmas.Int.{ints, clamps}
 use Rattle.gtfs_days.specs.Service.{first_service_day, last_service_day}
 use Rattle.gtfs_field.proofs.NumberFacts.{cases_int}
-use Rattle.gtfs_board.specs.upcoming.Lanes.{IsFrom}
+use Rattle.gtfs_board.specs.upcoming.OpenedLanes.{IsFrom}
 
 -- the day is the first at or after a low mark, and not before the first day or past the one after the last
 pub record IsStartDay (low first last day : ℤ) : Type 0 where

@@ -11,15 +11,15 @@ use Rattle.std.proofs.lemmas.Map.Keys.{any_passes_from_place as at_any}
 use Rattle.gtfs_field.proofs.NumberFacts.{eq-int_eq, int_eq-true, int_le-true, le-int_le}
 use Rattle.gtfs_field.proofs.ListFacts.{mapped_at as at_map}
 use Rattle.gtfs_schema.proofs.SiteFacts.{text_is, text_itself}
-use Rattle.gtfs_schema.specs.Values.{if_there}
+use Rattle.gtfs_schema.specs.FieldValues.{if_there}
 use Rattle.gtfs_days.specs.Service.{is_active}
 use Rattle.gtfs_rows.proofs.SoundOrder.{in_order}
 use Rattle.gtfs_rows.specs.Trips.{stop_rows_by_trip, frequencies_by_trip}
 use Rattle.gtfs_rows.proofs.SameElements.{pairs-map}
 use Rattle.gtfs_rows.specs.Content.{Content}
-use Rattle.gtfs_rows.specs.Order.{Ascends}
+use Rattle.gtfs_rows.specs.TransferOrder.{Ascends}
 use Rattle.gtfs_rows.specs.Rows.{ServiceRow, StopRow, Trip}
-use Rattle.gtfs_rows.specs.Views.{IsSoundParts, content_of_parts, service_ids, service_of, text_of_number, trip_ids}
+use Rattle.gtfs_rows.specs.RowsInMemory.{IsSoundParts, content_of_parts, service_ids, service_of, text_of_number, trip_ids}
 use Rattle.gtfs_rows.specs.declared.parts.Parts.{Parts}
 use Rattle.gtfs_rows.specs.Places.{is_in_place}
 use Rattle.gtfs_runs.specs.StopLanes.{AreLanesOf, StopLanesValue, lanes_of}
@@ -31,7 +31,7 @@ use Rattle.gtfs_rows.specs.Departures.{Origins, departs_at, runs_on}
 use Rattle.gtfs_rows.specs.Key.{Key}
 use Rattle.gtfs_board.specs.LaneDays.{all_departures, departing, lane_at, serves_on}
 use Rattle.gtfs_board.specs.declared.upcoming.candidate.Candidate.{Candidate}
-use Rattle.gtfs_board.specs.upcoming.Order.{In}
+use Rattle.gtfs_board.specs.upcoming.QueueOrder.{In}
 use Rattle.gtfs_board.proofs.BoardKeys.{StandFor}
 use Rattle.gtfs_runs.proofs.TripIds.{text_at}
 use Rattle.gtfs_board.proofs.EventFacts.{IsPassing, any_at, event_lane, lane_event, lane_one, map_at, of_passing, passing, same_number, same_row, service_within, there_some, trip_back}

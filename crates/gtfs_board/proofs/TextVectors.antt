@@ -13,7 +13,7 @@ use Rattle.gtfs_field.specs.Calendar.{date_after, date_after-number}
 use Rattle.gtfs_field.specs.Canonical.{digits_of_date, date_text}
 use Rattle.gtfs_rows.specs.Key.{Key}
 use Rattle.gtfs_board.specs.KeyTexts.{key_text, key_of}
-use Rattle.gtfs_board.specs.Lines.{clock_text, line_text}
+use Rattle.gtfs_board.specs.BoardLines.{clock_text, line_text}
 
 -- ---- a date that has the number of a day is the day's date
 

@@ -12,7 +12,7 @@ use Rattle.gtfs_rows.specs.Departures.{IsBoard}
 use Rattle.gtfs_rows.specs.Key.{Key}
 use Rattle.gtfs_rows.specs.Rows.{StopRow, Trip}
 use Rattle.gtfs_rows.specs.Runs.{is_timed}
-use Rattle.gtfs_rows.specs.Views.{IsSoundParts, content_of_parts, service_ids, trip_ids}
+use Rattle.gtfs_rows.specs.RowsInMemory.{IsSoundParts, content_of_parts, service_ids, trip_ids}
 use Rattle.gtfs_rows.specs.declared.parts.Parts.{Parts}
 use Rattle.gtfs_runs.specs.Lanes.{latest}
 use Rattle.gtfs_runs.specs.StopLanes.{AreLanesOf, StopLanesValue, lanes_of}
@@ -26,14 +26,14 @@ use Rattle.gtfs_board.specs.Board.{StepCount, keys_of, start_of}
 use Rattle.gtfs_board.specs.CandidateKeys.{key_among}
 use Rattle.gtfs_board.specs.Floors.{IsNumbered, is_from}
 use Rattle.gtfs_board.specs.LaneDays.{AreTimely, all_departures, departures_on}
-use Rattle.gtfs_board.specs.Opening.{IsOpen, IsOpened, board_value}
-use Rattle.gtfs_board.specs.Showing.{IsOfFeed, candidate_key, listed_in, candidate_times}
-use Rattle.gtfs_board.specs.Shown.{IsShown}
+use Rattle.gtfs_board.specs.OpenedBoard.{IsOpen, IsOpened, board_value}
+use Rattle.gtfs_board.specs.ShownCandidates.{IsOfFeed, candidate_key, listed_in, candidate_times}
+use Rattle.gtfs_board.specs.ShownTrips.{IsShown}
 use Rattle.gtfs_board.specs.declared.upcoming.candidate.Candidate.{Candidate}
 use Rattle.gtfs_board.specs.declared.span.Span.{Span}
 use Rattle.gtfs_board.specs.upcoming.Candidates as waiting
 use Rattle.gtfs_board.specs.upcoming.Candidates.{UpcomingValue, candidate_lt, rest_above, steps_so_far}
-use Rattle.gtfs_board.specs.upcoming.Order.{Each, In, AscendsBy}
+use Rattle.gtfs_board.specs.upcoming.QueueOrder.{Each, In, AscendsBy}
 use Rattle.gtfs_board.proofs.Candidates.{candidates_strict}
 use Rattle.gtfs_board.proofs.EventFacts.{map_at}
 use Rattle.gtfs_board.proofs.Opened.{board_left, keys_listed, of_feed, queued_is, shown-at, steps_are}
@@ -125,7 +125,7 @@ module _ (choice : Times) (p : Parts) (sound : IsSoundParts p) (s : List ℕ) (l
         → v.rest ≡ rest_above all floor
         → ((c : Candidate) → IsNumbered p (length (lanes_of lanes)) c → candidate_lt floor c ≡ is_from p span.from after c)
         → lanes.greatest ≡ latest f s → floor.instant ≡ start_of span.from after
-        → waiting.HasSettings (length (lanes_of lanes)) lanes.greatest floor.instant end v → waiting.IsQueued v → v.steps ≤ (steps_so_far v).for_days
+        → waiting.HasSettings (length (lanes_of lanes)) lanes.greatest floor.instant end v → waiting.AreQueued v → v.steps ≤ (steps_so_far v).for_days
         → IsOpen p v × IsOpened choice (content_of_parts p) zone s span after (board_value p zone v)
     opened_board span after floor v ends rest above greatest start settings queued steps =
         let kept : IsOpen p v = record {

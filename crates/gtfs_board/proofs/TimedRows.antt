@@ -6,7 +6,7 @@ use Rattle.gtfs_field.proofs.ListFacts.{mapped_at}
 use Rattle.gtfs_rows.proofs.TripFacts.{stop_times}
 use Rattle.gtfs_rows.specs.Content.{Content}
 use Rattle.gtfs_rows.specs.Trips.{stop_rows_by_trip}
-use Rattle.gtfs_rows.specs.Views.{IsSoundParts}
+use Rattle.gtfs_rows.specs.RowsInMemory.{IsSoundParts}
 use Rattle.gtfs_rows.specs.declared.parts.Parts.{Parts}
 use Rattle.gtfs_stop_times.specs.declared.stop_row.StopRow.{StopRow}
 use Rattle.gtfs_runs.specs.Patterns.{rows_of_number}
@@ -17,7 +17,7 @@ use Rattle.gtfs_times.specs.declared.times.Times.{Times}
 use Rattle.gtfs_times.specs.declared.times.Times.TheVariants as times
 use Rattle.gtfs_times.proofs.FilledContent.{sound-timed}
 use Rattle.gtfs_times.proofs.TimedContent.{by_trip, timed-length}
-use Rattle.gtfs_board.specs.SheetSteps.{KeepTimes}
+use Rattle.gtfs_board.specs.TimetableColumns.{KeepTimes}
 use Rattle.gtfs_board.proofs.SheetColumns.{late-rows}
 
 -- with its times as given a content is as it is

@@ -7,7 +7,7 @@ use Rattle.std.proofs.lemmas.List.{get_or-map, length-map}
 use Rattle.std.proofs.lemmas.List.FromFn.{get_or-map-range_with_len, length-map-range_with_len}
 use Rattle.std.proofs.lemmas.Option.{slice_get_within}
 use Rattle.std.proofs.lemmas.Simd.{map-map}
-use Rattle.gtfs_schema.specs.Values.{if_there}
+use Rattle.gtfs_schema.specs.FieldValues.{if_there}
 use Rattle.gtfs_field.proofs.ListFacts.{some_of}
 use Rattle.gtfs_table.proofs.PartFacts.{length-parts}
 use Rattle.gtfs_rows.specs.Content.{Content}
@@ -15,16 +15,16 @@ use Rattle.gtfs_rows.specs.Departures.{runs_on}
 use Rattle.gtfs_rows.specs.NamedRows.{stop_row_named}
 use Rattle.gtfs_rows.specs.Rows.{StopRow, Trip}
 use Rattle.gtfs_rows.specs.Runs.{first_leaves, is_run, is_timed, starts_run, trip_start}
-use Rattle.gtfs_rows.specs.Sound.{leaves}
+use Rattle.gtfs_rows.specs.SoundContent.{leaves}
 use Rattle.gtfs_rows.specs.Trips.{stop_rows_by_trip}
 use Rattle.gtfs_stop_times.specs.RowTimes.{left_at}
-use Rattle.gtfs_rows.specs.Views.{IsSoundParts, content_of_parts, route_ids, text_of_number, trip_of}
+use Rattle.gtfs_rows.specs.RowsInMemory.{IsSoundParts, content_of_parts, route_ids, text_of_number, trip_of}
 use Rattle.gtfs_rows.specs.declared.frequency.Frequency.{Frequency}
 use Rattle.gtfs_rows.specs.declared.numbers.TripNo.{TripNo}
 use Rattle.gtfs_rows.specs.declared.parts.Parts.{Parts}
 use Rattle.gtfs_stop_times.specs.declared.stop_row.StopRow.{StopRow as StopTime}
 use Rattle.gtfs_rows.specs.declared.trip.Trip.{Trip as TripRow}
-use Rattle.gtfs_runs.specs.Counts.{tally}
+use Rattle.gtfs_runs.specs.Tallies.{tally}
 use Rattle.gtfs_runs.specs.Patterns.{ArePatterns, direction_of_trip, entries_of, entries_under, entry_of, is_of_route, rows_of_number}
 use Rattle.gtfs_runs.specs.declared.pattern.Pattern.{Pattern}
 use Rattle.gtfs_times.specs.Filling.{filled_rows, time_at, timed, timed_stop_rows, timed_trip}
@@ -34,7 +34,7 @@ use Rattle.gtfs_times.specs.declared.times.Times.TheVariants as times
 use Rattle.gtfs_times.proofs.FilledContent.{sound-timed}
 use Rattle.gtfs_times.proofs.FilledSound.{filled-length}
 use Rattle.gtfs_times.proofs.TimedContent.{content-timed}
-use Rattle.gtfs_board.specs.SheetSteps.{IsPattern, column_times, goes, is_column_of, sheets_along, time_of_column, times_of_column}
+use Rattle.gtfs_board.specs.TimetableColumns.{IsPattern, column_times, goes, is_column_of, sheets_along, time_of_column, times_of_column}
 use Rattle.gtfs_board.specs.Timetable.{Sheet, row_at, sheets}
 use Rattle.gtfs_board.specs.Timetable as table
 use Rattle.gtfs_board.specs.declared.sheet.columns.RunColumn.{RunColumn}

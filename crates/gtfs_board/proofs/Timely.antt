@@ -13,8 +13,8 @@ use Rattle.gtfs_stop_times.specs.RowTimes.{left_at}
 use Rattle.gtfs_field.specs.Calendar.{date_of_day}
 use Rattle.gtfs_field.proofs.ListFacts.{fold-rises as fold_above}
 use Rattle.gtfs_rows.specs.Rows.{StopRow, Trip}
-use Rattle.gtfs_rows.specs.Sound.{leaves}
-use Rattle.gtfs_rows.specs.Views.{IsSoundParts, content_of_parts, frequency_of, service_ids, stop_row_of, trip_of}
+use Rattle.gtfs_rows.specs.SoundContent.{leaves}
+use Rattle.gtfs_rows.specs.RowsInMemory.{IsSoundParts, content_of_parts, frequency_of, service_ids, stop_row_of, trip_of}
 use Rattle.gtfs_rows.specs.declared.frequency.Frequency.{Frequency as PeriodRow}
 use Rattle.gtfs_rows.specs.declared.parts.Parts.{Parts}
 use Rattle.gtfs_runs.proofs.Bounds.{IsPeriod, periods_within, rows_within}
@@ -25,7 +25,7 @@ use Rattle.gtfs_rows.specs.Runs.{first_leaves, is_departure_row, is_run, passes_
 use Rattle.gtfs_runs.specs.declared.event.Event.{Event}
 use Rattle.gtfs_runs.proofs.TripTimes.{at_most as most_left}
 use Rattle.gtfs_board.specs.LaneDays.{AreTimely, lane_at, no_lane}
-use Rattle.gtfs_board.specs.upcoming.Order.{In}
+use Rattle.gtfs_board.specs.upcoming.QueueOrder.{In}
 use Rattle.gtfs_board.proofs.EventFacts.{IsPassing, any_at, at_in, lane_event, map_at, passing, trip_back}
 use Rattle.gtfs_board.proofs.LaneDays.{day_there, in-flat_map, in-map, in-range}
 use Rattle.gtfs_board.proofs.Rests.{in-filter}

@@ -6,13 +6,14 @@ use Rattle.std.proofs.lemmas.Int.{ints}
 use Rattle.std.proofs.lemmas.Bool.{cases_Bool}
 use Rattle.gtfs_field.proofs.NumberFacts.{cases_int, int_lt-true}
 use Rattle.gtfs_board.specs.declared.upcoming.candidate.Candidate.{Candidate}
-use Rattle.gtfs_board.specs.upcoming.Order.{In, Each, IsUpward, same, tally}
+use Rattle.gtfs_runs.specs.Tallies.{tally}
+use Rattle.gtfs_runs.proofs.Tallies.{tally-append}
+use Rattle.gtfs_board.specs.upcoming.QueueOrder.{In, Each, IsUpward, same}
 use Rattle.gtfs_board.specs.Board.{low_mark, may_be_opened}
-use Rattle.gtfs_board.specs.upcoming.Lanes.{Events, IsStopped, IsFrom, AreStepsFew, is_opened}
-use Rattle.gtfs_board.specs.upcoming.Candidates.{AreDepartures, AreHeadsAbove, HaveSameMembers, IsQueued, candidate_lt, least_from, IsWithin, AreGathered, position, IsAside, IsFirst, IsWaiting, head_of, rest_above}
+use Rattle.gtfs_board.specs.upcoming.OpenedLanes.{Events, IsStopped, IsFrom, AreStepsFew, is_opened}
+use Rattle.gtfs_board.specs.upcoming.Candidates.{AreDepartures, AreHeadsAbove, HaveSameMembers, AreQueued, candidate_lt, least_from, IsWithin, AreGathered, instant_or_end, IsAside, IsFirst, IsWaiting, head_of, rest_above}
 use Rattle.gtfs_board.proofs.Orders.{Each-in, find-in, find-least, find-none, in-either}
 use Rattle.gtfs_board.proofs.Heads.{head-waits, least_of_all, heads_taken, head-found, find-passes}
-use Rattle.gtfs_board.proofs.Opening.{tally-append}
 use Rattle.gtfs_board.proofs.Window.{each_in, each_weaker, waits-head, held_bound}
 use Rattle.gtfs_board.proofs.Reach.{reached-opened, opened-reached}
 use Rattle.gtfs_board.proofs.Starts.{IsStartDay}
@@ -33,7 +34,7 @@ times_le (suc n) a b h = let rest = times_le n a b h in grind (arith, rest)
 counted : (n : ℕ) (p : ℤ → Bool) (xs : List ℤ) → n * count_by p xs ≡ n * tally p xs
 counted n p xs = ap (λ k. n * k) (tally_sum p xs)
 
-no_earlier : (end : ℤ) (first : Option Candidate) (others : List Candidate) → IsFirst first others → Each (λ y. position end first ≤ℤ y.instant) (option_to_list first ++ others)
+no_earlier : (end : ℤ) (first : Option Candidate) (others : List Candidate) → IsFirst first others → Each (λ y. instant_or_end end first ≤ℤ y.instant) (option_to_list first ++ others)
 no_earlier end None others e = rw e tt
 no_earlier end (Some c) others least = (omega (arith, ints), each_weaker (λ y. candidate_lt y c ≡ false) (λ y. c.instant ≤ℤ y.instant) (λ y h. not_lt-instant y c h) others least)
 
@@ -53,7 +54,7 @@ module _ {count latest : ℕ} {end first_day last : ℤ} {days : List ℤ} {orig
 
   -- what was gathered joins what waits, and the first of all, if any, has the least instant
   least_is : (floor : Candidate) (others fresh rest : List Candidate) (o : Option Candidate) (day mark : ℤ) → AreGathered events floor end others fresh day mark
-      → HaveSameMembers (option_to_list o ++ rest) (others ++ fresh) → IsFirst o rest → mark ≡ position end o
+      → HaveSameMembers (option_to_list o ++ rest) (others ++ fresh) → IsFirst o rest → mark ≡ instant_or_end end o
   least_is floor others fresh rest None day mark g alike none =
       g.least ∙ ap (least_from end) (uncounted (others ++ fresh) (λ x. sym (alike x) ∙ ap (tally (same candidate_lt x)) none)) ∙ least_none end
   least_is floor others fresh rest (Some c) day mark g alike least =
@@ -63,20 +64,20 @@ module _ {count latest : ℕ} {end first_day last : ℤ} {days : List ℤ} {orig
 
   pub joined : (floor : Candidate) (others fresh rest : List Candidate) (o : Option Candidate) (day mark : ℤ) → AreGathered events floor end others fresh day mark
       → IsStopped last day mark → HaveSameMembers (option_to_list o ++ rest) (others ++ fresh) → IsFirst o rest
-      → IsWaiting events end last floor o rest day × (mark ≡ position end o)
+      → IsWaiting events end last floor o rest day × (mark ≡ instant_or_end end o)
   joined floor others fresh rest o day mark g stopped alike first =
       let is = least_is floor others fresh rest o day mark g alike first in (
         record {
           heads = λ x. alike x ∙ g.heads x;
           least = first;
-          within = each_alike (IsWithin (position end o)) (others ++ fresh) (option_to_list o ++ rest) alike (rw is at g.within);
+          within = each_alike (IsWithin (instant_or_end end o)) (others ++ fresh) (option_to_list o ++ rest) alike (rw is at g.within);
           stopped = rw is at stopped;
         },
         is,
       )
 
-  above_first : (first : Option Candidate) (day : ℤ) → IsStopped last day (position end first)
-      → (i : ℕ) (d : ℤ) (y : Candidate) → day ≤ℤ d → In y (events i d) → position end first <ℤ y.instant
+  above_first : (first : Option Candidate) (day : ℤ) → IsStopped last day (instant_or_end end first)
+      → (i : ℕ) (d : ℤ) (y : Candidate) → day ≤ℤ d → In y (events i d) → instant_or_end end first <ℤ y.instant
   above_first first day stopped i d y after there = elim stopped [
     | inl past ↦ let none = known.beyond i d (omega (arith, ints, past, after)) in absurd (rw none at there)
     | inr above ↦ let e = known.lanes.early i d y there in omega (arith, ints, above, after, e)
@@ -170,16 +171,16 @@ module _ {count latest : ℕ} {end first_day last : ℤ} {days : List ℤ} {orig
 
   -- the queue and the rest have one first
   pub stands : (floor : Candidate) (first : Option Candidate) (others : List Candidate) (day : ℤ) → IsWaiting events end last floor first others day
-      → (head_of (option_to_list first ++ others) ≡ head_of (rest_above all floor)) × (position end (head_of (rest_above all floor)) ≡ position end first)
+      → (head_of (option_to_list first ++ others) ≡ head_of (rest_above all floor)) × (instant_or_end end (head_of (rest_above all floor)) ≡ instant_or_end end first)
   stands floor None others day w = let none = none_of_rest floor others day w in let alone = w.least in (rw (none, alone) refl, rw none refl)
   stands floor (Some c) others day w = let is = first_of_rest floor c others day w in (rw is refl, rw is refl)
 
   pub queued : (floor : Candidate) (first : Option Candidate) (others : List Candidate) (day : ℤ) (start : ℤ) (steps : ℕ) → IsWaiting events end last floor first others day
-      → IsQueued (record { rest = rest_above all floor; queue = option_to_list first ++ others; lanes = count; latest = latest; start = start; end = end; steps = steps })
+      → AreQueued (record { rest = rest_above all floor; queue = option_to_list first ++ others; lanes = count; latest = latest; start = start; end = end; steps = steps })
   queued floor first others day start steps w = record {
     within = waits_left floor first others day w;
     same_first = (stands floor first others day w).0;
-    bounded = held_bound candidates_strict known.lanes day (candidate_lt floor) (option_to_list first ++ others) (position end first) w.heads (no_earlier end first others w.least) w.within;
+    bounded = held_bound candidates_strict known.lanes day (candidate_lt floor) (option_to_list first ++ others) (instant_or_end end first) w.heads (no_earlier end first others w.least) w.within;
   }
 
   -- nothing above a floor lies on a day before the first one that is looked at

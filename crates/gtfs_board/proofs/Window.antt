@@ -3,8 +3,9 @@ use Rattle.std.specs.Prelude.{ℤ, pos, ◌+ℤ◌, ◌-ℤ◌, ◌*ℤ◌, ◌�
 use Rattle.std.proofs.lemmas.Int.{ints}
 use Rattle.std.proofs.lemmas.Bool.{cases_Bool, cases_eq, cases_lt, and_parts, eqb-true, eq-eqb}
 use Rattle.gtfs_field.proofs.NumberFacts.{abs-above, cases_int}
-use Rattle.gtfs_board.specs.upcoming.Order.{IsStrict, In, Each, same, tally}
-use Rattle.gtfs_board.specs.upcoming.Lanes.{Events, AreLanes, is_head, AreHeads}
+use Rattle.gtfs_runs.specs.Tallies.{tally}
+use Rattle.gtfs_board.specs.upcoming.QueueOrder.{IsStrict, In, Each, same}
+use Rattle.gtfs_board.specs.upcoming.OpenedLanes.{Events, AreLanes, is_head, AreHeads}
 use Rattle.gtfs_board.proofs.Orders.{find-in, Each-in, same-self}
 use Rattle.gtfs_board.proofs.Heads.{head-found}
 

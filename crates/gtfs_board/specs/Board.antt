@@ -8,7 +8,7 @@ use Rattle.gtfs_days.specs.declared.zone.Zone.{Zone}
 use Rattle.gtfs_rows.specs.Content.{Content}
 use Rattle.gtfs_rows.specs.Departures.{is_member}
 use Rattle.gtfs_rows.specs.Key.{Key, key_cmp}
-use Rattle.gtfs_board.specs.Lines.{Listed}
+use Rattle.gtfs_board.specs.BoardLines.{Listed}
 
 -- the departures that are left, the keys that wait in memory, and with what the board was opened: the number of lanes, the
 -- latest second at which a run departs, the instant from which it looks, the one before which it ends, and the zone
@@ -58,8 +58,8 @@ abbrev pub first_instant : ℤ → List Listed → ℤ
 first_instant until [] = until -ℤ pos 1
 first_instant until (d ∷ ds) = d.key.instant
 
-abbrev pub position : BoardValue → ℤ
-position b = first_instant b.until b.rest
+abbrev pub instant_reached : BoardValue → ℤ
+instant_reached b = first_instant b.until b.rest
 
 -- no day that begins before this has a departure at or above an instant
 abbrev pub low_mark : ℕ → ℤ → ℤ
@@ -75,7 +75,7 @@ reach latest start at = count_by (may_be_opened (low_mark latest start) at) serv
 
 -- how many steps the days may have cost that may have been opened: each one a lane
 abbrev pub steps_for_days : BoardValue → ℕ
-steps_for_days b = b.lanes * reach b.latest b.start (position b)
+steps_for_days b = b.lanes * reach b.latest b.start (instant_reached b)
 
 -- how many steps were made, and how many of them may have been made for days
 pub record StepCount : Type 0 where

@@ -1,8 +1,8 @@
 -- The keys of candidates, whose trips go by number.
 use Rattle.std.specs.Prelude.{◌≡◌, ◌<◌, ℕ, List, length}
 use Rattle.std.specs.declared.cmp.Ordering.{Ordering}
-use Rattle.gtfs_rows.specs.Order.{Ascends}
-use Rattle.gtfs_rows.specs.Views.{text_of_number}
+use Rattle.gtfs_rows.specs.TransferOrder.{Ascends}
+use Rattle.gtfs_rows.specs.RowsInMemory.{text_of_number}
 use Rattle.gtfs_field.specs.TextOrder.{text_cmp}
 use Rattle.gtfs_rows.specs.Key.{Key, key_cmp}
 use Rattle.gtfs_board.specs.declared.upcoming.candidate.Candidate.{Candidate}

@@ -4,7 +4,7 @@ use Rattle.gtfs_days.specs.Service.{first_service_day}
 use Rattle.gtfs_rows.specs.declared.parts.Parts.{Parts}
 use Rattle.gtfs_rows.specs.Departures.{is_above}
 use Rattle.gtfs_rows.specs.Key.{Key}
-use Rattle.gtfs_board.specs.Showing.{candidate_key}
+use Rattle.gtfs_board.specs.ShownCandidates.{candidate_key}
 use Rattle.gtfs_board.specs.declared.upcoming.candidate.Candidate.{Candidate}
 
 -- a departure of the feed, as far as a floor compares with it

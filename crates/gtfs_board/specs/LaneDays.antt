@@ -1,11 +1,11 @@
 -- The departures of the lanes of a stop on each service day, up to an instant.
 use Rattle.std.specs.Prelude.{◌<◌, ◌≤◌, ℕ, Bool, cond, ℤ, pos, ◌+ℤ◌, int_le, List, [], All, length, map, slice_get, slice_index_or}
 use Rattle.std.specs.List.{filter, flat_map, range_with_len}
-use Rattle.gtfs_schema.specs.Values.{if_there}
+use Rattle.gtfs_schema.specs.FieldValues.{if_there}
 use Rattle.gtfs_days.specs.Service.{is_active, service_days}
-use Rattle.gtfs_rows.specs.Order.{Ascends}
+use Rattle.gtfs_rows.specs.TransferOrder.{Ascends}
 use Rattle.gtfs_rows.specs.declared.parts.Parts.{Parts}
-use Rattle.gtfs_runs.specs.Order.{event_cmp}
+use Rattle.gtfs_runs.specs.EventOrder.{event_cmp}
 use Rattle.gtfs_runs.specs.StopLanes.{LaneValue, StopLanesValue, filled_value, lanes_of, list_value, period_value}
 use Rattle.gtfs_runs.specs.declared.event.Event.{Event}
 use Rattle.gtfs_rows.specs.Departures.{Origins}

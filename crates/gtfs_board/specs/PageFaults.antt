@@ -3,8 +3,8 @@ use Rattle.std.specs.Prelude.{◌≡◌, ◌+◌, ℕ, Bool, cond, List, length,
 use Rattle.gtfs_days.specs.declared.zone.Zone.{Zone}
 use Rattle.gtfs_devices.specs.Device.{counted}
 use Rattle.gtfs_board.specs.Board.{AreStepsWithin, StepCount}
-use Rattle.gtfs_board.specs.Lines.{Listed}
-use Rattle.gtfs_board.specs.Page.{IsPage, IsCutShort, IsStopped}
+use Rattle.gtfs_board.specs.BoardLines.{Listed}
+use Rattle.gtfs_board.specs.BoardPage.{IsPage, IsCutShort, IsStopped}
 use Rattle.gtfs_board.specs.declared.page.PageFault.{PageFault}
 use Rattle.gtfs_board.specs.declared.page.PageFault.TheVariants.{Out, OutOfMemory}
 

@@ -12,7 +12,7 @@ use Rattle.gtfs_rows.specs.Rows.{StopRow, Trip}
 use Rattle.gtfs_runs.specs.Lanes.{stops_of}
 use Rattle.gtfs_rows.specs.Runs.{is_timed, passes_at, runs}
 use Rattle.gtfs_rows.specs.Departures.{runs_on}
-use Rattle.gtfs_board.specs.upcoming.Order.{ascending_by}
+use Rattle.gtfs_board.specs.upcoming.QueueOrder.{ascending_by}
 
 -- a run of a sheet: the second at which it starts, and its trip
 abbrev pub Run : Type 0

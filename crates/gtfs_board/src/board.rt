@@ -1,16 +1,16 @@
 //! Boards of stops.
 ghost use Rattle.std.specs.Prelude.{◌≡◌, ◌≢◌, ◌<◌, ◌≤◌, ◌∷◌, ◌↔◌, [], All, IsOk, true, false, length, IfOk, IfSome, IsErrOf, OnErr, MatchOption, option_map};
 ghost use Rattle.gtfs_days.specs.Zone.{IsInstant, zone_origin};
-ghost use Rattle.gtfs_rows.specs.Views.{content_of_parts};
-ghost use Rattle.gtfs_rows.specs.Views.{service_ids, stop_ids, text_of_number};
+ghost use Rattle.gtfs_rows.specs.RowsInMemory.{content_of_parts};
+ghost use Rattle.gtfs_rows.specs.RowsInMemory.{service_ids, stop_ids, text_of_number};
 ghost use Rattle.gtfs_runs.specs.Lanes.{latest};
 ghost use Rattle.gtfs_runs.specs.StopLanes.{AreLanesOf, lanes_of};
 ghost use Rattle.gtfs_board.specs.Board.{AreStepsWithin, IsQueued, SameSettings, is_stop, keys_of, step_count, steps_for_days};
 ghost use Rattle.gtfs_rows.specs.Departures.{IsBoard};
-ghost use Rattle.gtfs_board.specs.Lent.{listed, plain_key};
-ghost use Rattle.gtfs_board.specs.Opening.{HasSettings, IsOpened};
-ghost use Rattle.gtfs_board.specs.Shown.{IsShown};
-ghost use Rattle.gtfs_board.specs.Span.{is_span};
+ghost use Rattle.gtfs_board.specs.LentKeys.{listed, plain_key};
+ghost use Rattle.gtfs_board.specs.OpenedBoard.{HasSettings, IsOpened};
+ghost use Rattle.gtfs_board.specs.ShownTrips.{IsShown};
+ghost use Rattle.gtfs_board.specs.BoardSpan.{is_span};
 ghost use Rattle.gtfs_board.specs.upcoming.Candidates.{taken};
 ghost use Rattle.gtfs_times.specs.Filling.{timed};
 
@@ -77,7 +77,7 @@ const _: () = prove!(size_of::<Days<'static>>() == 104);
 
 impl<'a> Model for Board<'a> {
     ghost use Rattle.gtfs_board.specs.Board.{BoardValue};
-    ghost use Rattle.gtfs_board.specs.Opening.{IsOpen, board_value};
+    ghost use Rattle.gtfs_board.specs.OpenedBoard.{IsOpen, board_value};
 
     ghost Value = { BoardValue };
 

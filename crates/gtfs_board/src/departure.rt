@@ -1,6 +1,6 @@
 ghost use Rattle.std.specs.Prelude.{◌≡◌, ◌≤◌, ◌++◌, codes, length};
-ghost use Rattle.gtfs_board.specs.Lines.{mark_text};
-ghost use Rattle.gtfs_board.specs.Shown.{mark_if};
+ghost use Rattle.gtfs_board.specs.BoardLines.{mark_text};
+ghost use Rattle.gtfs_board.specs.ShownTrips.{mark_if};
 
 use crate::key::Key;
 

@@ -7,8 +7,8 @@ ghost use Rattle.gtfs_days.specs.Service.{first_service_day};
 ghost use Rattle.gtfs_board.specs.Board.{start_of};
 ghost use Rattle.gtfs_board.specs.Floors.{IsNumbered, is_from};
 ghost use Rattle.gtfs_rows.specs.Key.{key_cmp};
-ghost use Rattle.gtfs_board.specs.Lent.{plain_key};
-ghost use Rattle.gtfs_board.specs.Showing.{candidate_key};
+ghost use Rattle.gtfs_board.specs.LentKeys.{plain_key};
+ghost use Rattle.gtfs_board.specs.ShownCandidates.{candidate_key};
 ghost use Rattle.gtfs_board.specs.declared.upcoming.candidate.Candidate.{Candidate as CandidateValue};
 ghost use Rattle.gtfs_board.specs.upcoming.Candidates.{candidate_lt};
 

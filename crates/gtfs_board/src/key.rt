@@ -4,7 +4,7 @@ ghost use Rattle.std.specs.Cmp.{partial_order_from_own_ties};
 ghost use Rattle.std.specs.Cmp.Rules.{comparing};
 ghost use Rattle.std.specs.Ordering.{on, as_partial_cmp};
 ghost use Rattle.gtfs_rows.specs.Key.{key_cmp};
-ghost use Rattle.gtfs_board.specs.Lent.{plain_key};
+ghost use Rattle.gtfs_board.specs.LentKeys.{plain_key};
 
 mod reading;
 mod writing;

@@ -2,8 +2,8 @@
 ghost use Rattle.std.specs.Prelude.{◌≡◌, ◌++◌, ◌≤◌, ◌+◌, ◌-◌, ◌^◌, min, string_bytes, string_len, OnOk, OnErr};
 ghost use Rattle.std.specs.String.{string_capacity};
 ghost use Rattle.gtfs_days.specs.Zone.{IsInstant};
-ghost use Rattle.gtfs_board.specs.Lent.{listed};
-ghost use Rattle.gtfs_board.specs.Lines.{line_text, texts_len, AppendsLine};
+ghost use Rattle.gtfs_board.specs.LentKeys.{listed};
+ghost use Rattle.gtfs_board.specs.BoardLines.{line_text, texts_len, AppendsLine};
 
 mod clock;
 

@@ -2,7 +2,7 @@
 ghost use Rattle.std.specs.Prelude.{◌≡◌, ◌≤◌, cond, IfOk, IfErr, OnOk};
 ghost use Rattle.gtfs_board.specs.Board.{AreStepsWithin, IsQueued, SameSettings, step_count};
 ghost use Rattle.gtfs_board.specs.PageFaults.{AreFaultSteps, AreLineFaultSteps, EndsLine, EndsPage, IsCounted, IsLineSent};
-ghost use Rattle.gtfs_board.specs.Page.{IsPage};
+ghost use Rattle.gtfs_board.specs.BoardPage.{IsPage};
 
 use crate::board::Board;
 use crate::line::push_line_by;

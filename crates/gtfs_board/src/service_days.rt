@@ -33,9 +33,9 @@ pub(crate) struct Days<'a> {
 }
 
 impl Days<'_> {
-    ghost use Rattle.gtfs_board.specs.Days.{count_of, events_of, serves_in};
+    ghost use Rattle.gtfs_board.specs.UpcomingDays.{count_of, events_of, serves_in};
     ghost use Rattle.gtfs_board.specs.upcoming.Candidates.{IsAside, first_above, slot_of};
-    ghost use Rattle.gtfs_board.specs.upcoming.Order.{In};
+    ghost use Rattle.gtfs_board.specs.upcoming.QueueOrder.{In};
 
     // How many lanes there are.
     pub(crate) fn count(&self) -> usize

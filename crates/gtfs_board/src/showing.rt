@@ -4,10 +4,10 @@ ghost use Rattle.std.specs.List.{list_any};
 ghost use Rattle.std.specs.Option.{option_or};
 ghost use Rattle.gtfs_rows.specs.Trips.{ArePeriods};
 ghost use Rattle.gtfs_stop_times.specs.RowTimes.{left_at};
-ghost use Rattle.gtfs_rows.specs.Views.{frequency_of, stop_ids, text_of_number, trip_ids};
+ghost use Rattle.gtfs_rows.specs.RowsInMemory.{frequency_of, stop_ids, text_of_number, trip_ids};
 ghost use Rattle.gtfs_rows.specs.Runs.{starts_run};
-ghost use Rattle.gtfs_board.specs.Lent.{listed, plain_key};
-ghost use Rattle.gtfs_board.specs.Showing.{IsOfFeed, candidate_key, listed_in};
+ghost use Rattle.gtfs_board.specs.LentKeys.{listed, plain_key};
+ghost use Rattle.gtfs_board.specs.ShownCandidates.{IsOfFeed, candidate_key, listed_in};
 
 use crate::departure::{Departure, Mark};
 use crate::key::Key;

@@ -1,5 +1,5 @@
 ghost use Rattle.std.specs.Prelude.{◌≡◌};
-ghost use Rattle.gtfs_board.specs.Span.{is_span, is_writable};
+ghost use Rattle.gtfs_board.specs.BoardSpan.{is_span, is_writable};
 
 // The first number that takes more than twelve digits, as no instant of a key does.
 const TOO_WIDE: u64 = 1_000_000_000_000;

@@ -2,8 +2,8 @@
 ghost use Rattle.std.specs.Prelude.{◌≡◌, negsuc, ◌≤ℤ◌, ◌≤◌, ◌+◌, length, IfOk, OnErr};
 ghost use Rattle.gtfs_days.specs.Service.{first_service_day};
 ghost use Rattle.gtfs_board.specs.Board.{AreStepsWithin};
-ghost use Rattle.gtfs_board.specs.Days.{all_of, count_of};
-ghost use Rattle.gtfs_board.specs.upcoming.Candidates.{HasSettings, IsAside, IsQueued, KeepsLists, SameSettings, TakesFirst, rest_above, steps_so_far, taken};
+ghost use Rattle.gtfs_board.specs.UpcomingDays.{all_of, count_of};
+ghost use Rattle.gtfs_board.specs.upcoming.Candidates.{HasSettings, IsAside, AreQueued, KeepsLists, KeepsSettings, TakesFirst, rest_above, steps_so_far, taken};
 
 mod candidate;
 mod gathering;
@@ -35,7 +35,7 @@ pub(crate) struct Upcoming<'a> {
 }
 
 impl<'a> Model for Upcoming<'a> {
-    ghost use Rattle.gtfs_board.specs.Days.{IsUpcoming, upcoming_value};
+    ghost use Rattle.gtfs_board.specs.UpcomingDays.{IsUpcoming, upcoming_value};
     ghost use Rattle.gtfs_board.specs.upcoming.Candidates.{UpcomingValue};
 
     ghost Value = { UpcomingValue };
@@ -55,7 +55,7 @@ impl<'a> Upcoming<'a> {
         requires instant { negsuc 999_999_999_999 ≤ℤ floor.instant }
         requires aside { IsAside floor first_service_day (count_of days) }
         ensures rest { IfOk result (λ b. b.rest ≡ rest_above (all_of days.entry) floor) }
-        ensures queued { IfOk result IsQueued }
+        ensures queued { IfOk result AreQueued }
         ensures settings { IfOk result (HasSettings (count_of days.entry)
             days.entry.lanes.greatest floor.instant days.entry.end) }
         ensures steps { IfOk result (λ b. b.steps ≤ steps + (steps_so_far b).for_days) }
@@ -80,8 +80,8 @@ impl<'a> Upcoming<'a> {
     pub(crate) fn next(&mut self) -> Result<Option<Candidate>, OutOfMemory>
         ensures first { IfOk result (TakesFirst self.old self.new) }
         ensures kept { OnErr result (KeepsLists self.old self.new) }
-        ensures settings { SameSettings self.old self.new }
-        ensures queued { IsQueued self.new }
+        ensures settings { KeepsSettings self.old self.new }
+        ensures queued { AreQueued self.new }
         ensures steps { IfOk result (λ o.
             AreStepsWithin (taken o) (steps_so_far self.old) (steps_so_far self.new)) }
     {

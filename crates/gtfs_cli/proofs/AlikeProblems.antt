@@ -9,12 +9,12 @@ use Rattle.std.proofs.lemmas.List.{get_or-map, length-map}
 use Rattle.std.proofs.lemmas.List.Sums.{count_by_more_no, count_by_more_yes}
 use Rattle.gtfs_table.specs.Tables.{Dataset}
 use Rattle.gtfs_schema.specs.Problems.{Problem}
-use Rattle.gtfs_schema.specs.View.{problem_of}
+use Rattle.gtfs_schema.specs.ProblemTexts.{problem_of}
 use Rattle.gtfs_schema.specs.declared.problem.Problem.{Problem as Lent}
 use Rattle.gtfs_schema.specs.steps.ProblemOrder.{problem_equal}
 use Rattle.gtfs_cli.specs.CheckLines.{count_alike, is_alike, kind_of, shown_line}
 use Rattle.gtfs_cli.specs.FirstOfEachKind.{firsts, if_counted}
-use Rattle.gtfs_cli.specs.KindCounts.{held_for, if_any, lent_cmp}
+use Rattle.gtfs_cli.specs.CountsByKind.{held_for, if_any, lent_cmp}
 use Rattle.gtfs_cli.specs.declared.commands.check.kind_counts.KindCounts.{KindCounts}
 use Rattle.gtfs_cli.proofs.Counted.{count-cons}
 use Rattle.gtfs_cli.proofs.MadeLines.{any-more, first-at, found as made-at, within as made-within}

@@ -8,9 +8,9 @@ use Rattle.gtfs_days.specs.declared.zone.Zone.{Zone}
 use Rattle.gtfs_devices.specs.Device.{counted}
 use Rattle.gtfs_rows.specs.Content.{Content}
 use Rattle.gtfs_times.specs.declared.times.Times.{Times}
-use Rattle.gtfs_board.specs.Page.{IsCutShort, IsPage, IsStopped}
+use Rattle.gtfs_board.specs.BoardPage.{IsCutShort, IsPage, IsStopped}
 use Rattle.gtfs_board.specs.Board.{is_stop}
-use Rattle.gtfs_board.specs.Lines.{Listed}
+use Rattle.gtfs_board.specs.BoardLines.{Listed}
 use Rattle.gtfs_cli.specs.BoardCommand.{ListsBoard}
 use Rattle.gtfs_cli.specs.ServeAnswers.{line_for, refused_line, AnswersLine, AreFirstLines, IsAnswerPart, IsBeginning, IsCut, IsLinePart, IsLineText, IsPrinted, IsQuestion, IsQuestionCause, IsSomeText, IsTextPart}
 use Rattle.gtfs_cli.specs.BoardsCommand.{IsRequestText, IsBoardCause}
@@ -18,13 +18,13 @@ use Rattle.gtfs_cli.specs.ServeQuestions.{Board, Question, Timetable}
 use Rattle.gtfs_cli.specs.Refusals.{TellsOutput}
 use Rattle.gtfs_cli.specs.BoardsRequests.{StopRequest}
 use Rattle.gtfs_cli.specs.DevicesSeen.{Output}
-use Rattle.gtfs_cli.specs.Sending.{text_left, Begins, IsSendingCause, IsSent, PrintsText, SendsSome}
+use Rattle.gtfs_cli.specs.SentText.{text_left, Begins, IsSendingCause, IsSent, PrintsText, SendsSome}
 use Rattle.gtfs_cli.specs.TimetableCommand.{timetable_request_of, AreFirstSheets, AreSheets, IsSheetsCause}
 use Rattle.gtfs_cli.specs.LentServeQuestions.{question_of}
 use Rattle.gtfs_cli.specs.declared.commands.serve.questions.Question.{Question as LentQuestion}
 use Rattle.gtfs_cli.specs.declared.commands.serve.questions.Question.TheVariants as lent
 use Rattle.gtfs_cli.specs.declared.commands.serve.questions.RouteRequest.{RouteRequest as LentRouteRequest}
-use Rattle.gtfs_rows.specs.Views.{content_of_parts}
+use Rattle.gtfs_rows.specs.RowsInMemory.{content_of_parts}
 use Rattle.gtfs_rows.specs.declared.parts.Parts.{Parts as Feed}
 use Rattle.gtfs_cli.specs.declared.commands.refusal.Refusal.{Refusal}
 use Rattle.gtfs_cli.specs.declared.commands.refusal.Refusal.TheVariants.{UnknownStop, UnknownRoute, UntilBeforeFrom, OutputFailed, OutOfMemory}

@@ -2,7 +2,7 @@
 use Rattle.std.proofs.Common.{◌≡◌, ◌∙◌, ap, refl, sym, subst, true, false, true≢false, Bool, bytes_eq, inl, inr, List, Option, Some, None, codes, Result}
 use Rattle.std.specs.Prelude.{⊤, IsSome}
 use Rattle.clap.specs.Words.{Row, Text, first_of, subcommand_of, takes}
-use Rattle.gtfs_commands.specs.Asked.{is_flagged, ForBoard, ForBoards, ForCheck, ForMerge, ForServe, ForTimetable, HasBoard, HasBoards, HasCheck, HasMerge, HasServe, HasTimetable, GivesBoard, GivesBoards, GivesCheck, GivesMerge, GivesServe, GivesTimetable, IsWhole}
+use Rattle.gtfs_commands.specs.AskedTexts.{is_flagged, ForBoard, ForBoards, ForCheck, ForMerge, ForServe, ForTimetable, HasBoard, HasBoards, HasCheck, HasMerge, HasServe, HasTimetable, GivesBoard, GivesBoards, GivesCheck, GivesMerge, GivesServe, GivesTimetable, IsWhole}
 use Rattle.gtfs_commands.specs.Words.{gtfs_app, boards_texts_of, check_texts_of, merge_texts_of, serve_texts_of, texts_of, timetable_texts_of, BoardTexts, BoardsTexts, CheckTexts, IsCommandOf, MergeTexts, ServeTexts, TimetableTexts}
 use Rattle.gtfs_commands.specs.declared.command.Command.{Command}
 use Rattle.gtfs_commands.specs.declared.command.Command.TheVariants as commands

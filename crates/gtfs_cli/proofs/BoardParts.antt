@@ -5,11 +5,11 @@ use Rattle.std.specs.Io.KnownBytes.{Appends}
 use Rattle.gtfs_days.specs.declared.zone.Zone.{Zone}
 use Rattle.gtfs_devices.specs.Folder.{Store}
 use Rattle.gtfs_rows.specs.Content.{Content}
-use Rattle.gtfs_rows.specs.Views.{content_of_parts}
+use Rattle.gtfs_rows.specs.RowsInMemory.{content_of_parts}
 use Rattle.gtfs_rows.specs.declared.parts.Parts.{Parts as Feed}
 use Rattle.gtfs_board.specs.Board.{is_stop}
-use Rattle.gtfs_board.specs.Page.{AreWritten, IsCutShort, IsPage, IsStopped}
-use Rattle.gtfs_board.specs.Lines.{Listed}
+use Rattle.gtfs_board.specs.BoardPage.{AreWritten, IsCutShort, IsPage, IsStopped}
+use Rattle.gtfs_board.specs.BoardLines.{Listed}
 use Rattle.gtfs_commands.specs.Words.{BoardTexts}
 use Rattle.gtfs_cli.specs.BoardCommand.{BoardSetting, board_judges, GoesOut, IsBoardText, IsOpeningCause, IsStopCause, IsTextOf, ListsBoard}
 use Rattle.gtfs_cli.specs.LentBoardRequests.{board_request_of, AreBoardValues}
@@ -18,7 +18,7 @@ use Rattle.gtfs_cli.specs.Failures.{FailedNowhere, Failures}
 use Rattle.gtfs_cli.specs.BoardOptions.{first_bad_board, IsBoardRequest, BoardRequest}
 use Rattle.gtfs_cli.specs.CommandPlan.{IsRefusedIn}
 use Rattle.gtfs_cli.specs.DevicesSeen.{Output}
-use Rattle.gtfs_cli.specs.Sending.{or_none, IsSendingCause, PrintsText}
+use Rattle.gtfs_cli.specs.SentText.{or_none, IsSendingCause, PrintsText}
 use Rattle.gtfs_cli.specs.declared.commands.refusal.Refusal.{Refusal}
 use Rattle.gtfs_cli.specs.declared.commands.refusal.Refusal.TheVariants.{UnknownStop, UntilBeforeFrom, OutOfMemory}
 use Rattle.gtfs_cli.specs.declared.commands.board.options.BoardRequest.{BoardRequest as LentRequest}

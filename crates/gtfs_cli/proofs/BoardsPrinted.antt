@@ -6,11 +6,11 @@ use Rattle.gtfs_days.specs.declared.zone.Zone.{Zone}
 use Rattle.gtfs_devices.specs.Folder.{Store}
 use Rattle.gtfs_table.specs.Tables.{without_marks}
 use Rattle.gtfs_rows.specs.Content.{Content}
-use Rattle.gtfs_rows.specs.Views.{content_of_parts}
+use Rattle.gtfs_rows.specs.RowsInMemory.{content_of_parts}
 use Rattle.gtfs_rows.specs.declared.parts.Parts.{Parts as Feed}
 use Rattle.gtfs_commands.specs.Words.{BoardsTexts}
 use Rattle.gtfs_cli.specs.FilesInFolders.{HoldsFeed, HoldsBytes, HoldsZone}
-use Rattle.gtfs_cli.specs.Sending.{IsSendingCause}
+use Rattle.gtfs_cli.specs.SentText.{IsSendingCause}
 use Rattle.gtfs_cli.specs.BoardsCommand.{boards_judges, of_utf8, AreAllBoards, BoardsSetting, IsBoardsPart, IsBoardsText, IsFileFault, IsLinesCause, IsRequestsFault, StopsInAll}
 use Rattle.gtfs_cli.specs.SharedOptions.{times_of}
 use Rattle.gtfs_cli.specs.CommandPlan.{IsRefusedIn}

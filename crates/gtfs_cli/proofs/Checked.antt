@@ -6,9 +6,9 @@ use Rattle.gtfs_schema.specs.Problems.{passes, IsReport, Passes, Problem}
 use Rattle.gtfs_devices.specs.Folder.{Store}
 use Rattle.gtfs_table.specs.Tables.{Dataset}
 use Rattle.gtfs_rows.specs.Content.{Content}
-use Rattle.gtfs_rows.specs.Reading.{content_of}
+use Rattle.gtfs_rows.specs.ContentRead.{content_of}
 use Rattle.gtfs_rules.specs.Report.{counts_line}
-use Rattle.gtfs_rows.specs.Views.{content_of_parts}
+use Rattle.gtfs_rows.specs.RowsInMemory.{content_of_parts}
 use Rattle.gtfs_rows.specs.declared.parts.Parts.{Parts}
 use Rattle.gtfs_advice.specs.Advice.{advice, About}
 use Rattle.gtfs_advice.specs.declared.code.Code.{Code}
@@ -23,7 +23,7 @@ use Rattle.gtfs_cli.specs.RestOfCheck.{advised_lines, lines_after, lines_left}
 use Rattle.gtfs_cli.specs.SharedOptions.{day_if_given, first_of_bad}
 use Rattle.gtfs_cli.specs.ReadingCauses.{IsTablesCause}
 use Rattle.gtfs_cli.specs.DevicesSeen.{Output}
-use Rattle.gtfs_cli.specs.Sending.{AreSent, IsSendingCause}
+use Rattle.gtfs_cli.specs.SentText.{AreSent, IsSendingCause}
 use Rattle.gtfs_cli.specs.declared.commands.check.Begun.{Begun}
 use Rattle.gtfs_cli.specs.declared.commands.refusal.Refusal.{Refusal}
 use Rattle.gtfs_cli.specs.declared.commands.refusal.Refusal.TheVariants.{OutputFailed, OutOfMemory}

@@ -2,7 +2,7 @@
 use Rattle.std.proofs.Common.{◌≡◌, ◌∙◌, ap, sym, refl, ℕ, suc, ◌+◌, ◌<◌, if◌then◌else◌, cond, Bool, true, false, List, [], ◌∷◌, ◌++◌, length, take, drop, Option, Some, None, arith}
 use Rattle.std.specs.List.{position_from}
 use Rattle.gtfs_table.specs.Blanks.{is_control}
-use Rattle.gtfs_schema.specs.Values.{plain}
+use Rattle.gtfs_schema.specs.FieldValues.{plain}
 
 -- a text up to its first control character, a space for that, and what follows
 split : (k : ℕ) (xs : List ℕ) (at : ℕ) → position_from is_control k xs ≡ Some at

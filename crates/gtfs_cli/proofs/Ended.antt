@@ -7,7 +7,7 @@ use Rattle.gtfs_cli.specs.Failures.{FailedNowhere, Failures}
 use Rattle.gtfs_cli.specs.CommandPlan.{failures_of, Ends, Plan}
 use Rattle.gtfs_cli.specs.Refusals.{status_in, status_of, TellsFolders, TellsOutput}
 use Rattle.gtfs_cli.specs.DevicesSeen.{Devices, Output}
-use Rattle.gtfs_cli.specs.Sending.{Sends, SendsBeginning}
+use Rattle.gtfs_cli.specs.SentText.{Sends, SendsBeginning}
 use Rattle.gtfs_cli.specs.declared.commands.refusal.Refusal.{Refusal}
 use Rattle.gtfs_cli.specs.declared.commands.refusal.Refusal.TheVariants.{Line, OutputFailed, Unreadable, Unwritable}
 use Rattle.gtfs_cli.specs.declared.commands.boards.request_fault.RequestFault.TheVariants as requests

@@ -1,7 +1,7 @@
 -- Which devices failed where a refusal is told.
 use Rattle.std.proofs.Common.{◌≡◌, ℕ, Result, Ok, Err, refl, subst}
 use Rattle.std.specs.Prelude.{IfErr}
-use Rattle.gtfs_cli.specs.Sending.{IsSendingCause}
+use Rattle.gtfs_cli.specs.SentText.{IsSendingCause}
 use Rattle.gtfs_cli.specs.Refusals.{TellsFolders, TellsOutput}
 use Rattle.gtfs_cli.specs.declared.commands.refusal.Refusal.{Refusal}
 use Rattle.gtfs_cli.specs.declared.commands.refusal.Refusal.TheVariants.{Unreadable, Unwritable, OutputFailed, OutOfMemory}

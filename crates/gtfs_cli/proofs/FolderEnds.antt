@@ -5,7 +5,7 @@ use Rattle.std.specs.List.{All}
 use Rattle.std.specs.FinMap as map
 use Rattle.gtfs_devices.specs.Device.{Rises}
 use Rattle.gtfs_devices.specs.Folder.{Store}
-use Rattle.gtfs_table.specs.Reading.{dataset_of, kept_files, HoldsWithin}
+use Rattle.gtfs_table.specs.TablesRead.{dataset_of, kept_files, HoldsWithin}
 use Rattle.gtfs_table.specs.Tables.{Dataset}
 use Rattle.gtfs_table.specs.declared.file.File.{File}
 use Rattle.gtfs_table.specs.declared.file.File.TheVariants as file
@@ -13,7 +13,7 @@ use Rattle.gtfs_schema.specs.Problems.{Passes}
 use Rattle.gtfs_cli.specs.FilesInFolders.{HoldsErrors, HoldsKeptFile, HoldsPassing, HoldsTables, LacksFeed}
 use Rattle.gtfs_cli.specs.RefusalOrder.{feed, tables}
 use Rattle.gtfs_cli.specs.RefusalMessages.{line_of}
-use Rattle.gtfs_cli.specs.Outcomes.{IsPlainRefusal}
+use Rattle.gtfs_cli.specs.CommandOutcomes.{IsPlainRefusal}
 use Rattle.gtfs_cli.specs.ReadingCauses.{IsReadingCause, IsTablesCause}
 use Rattle.gtfs_cli.specs.declared.commands.refusal.Refusal.{Refusal}
 use Rattle.gtfs_cli.specs.declared.commands.refusal.Refusal.TheVariants.{NotThere, Unreadable, OverLimit, HasErrors, OutOfMemory}

@@ -17,7 +17,7 @@ use Rattle.clap.specs.Lexer.{strip_byte}
 use Rattle.gtfs_field.proofs.Numerals.{numerals}
 use Rattle.gtfs_cli.specs.SharedOptions.{service_day}
 use Rattle.gtfs_cli.specs.BoardOptions.{after_at}
-use Rattle.gtfs_board.specs.Span.{is_span}
+use Rattle.gtfs_board.specs.BoardSpan.{is_span}
 use Rattle.gtfs_board.specs.declared.span.Span.{Span}
 
 shaped-ok : {V : Type 0} (b : Bool) (r : Result V FieldFault) (v : V) → shaped b r ≡ Ok v → (b ≡ true) × (r ≡ Ok v)

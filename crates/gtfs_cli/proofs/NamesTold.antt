@@ -6,8 +6,8 @@ use Rattle.gtfs_rows.specs.Content.{Content}
 use Rattle.gtfs_merge.specs.Merging.{AreNamesOf}
 use Rattle.gtfs_merge.specs.Names.{AllNames, in_kind, new_id}
 use Rattle.gtfs_merge.specs.Renaming.{lists_id, ids, names_a, names_b, renaming, Renaming}
-use Rattle.gtfs_merge.specs.Near.{near_line, nearness, report}
-use Rattle.gtfs_merge.specs.Report.{joined_line, kind_lines, kinds, renamed_line, renamed_lines}
+use Rattle.gtfs_merge.specs.NearStops.{near_line, nearness, report}
+use Rattle.gtfs_merge.specs.MergeReport.{joined_line, kind_lines, kinds, renamed_line, renamed_lines}
 use Rattle.gtfs_merge.specs.declared.kind.Kind.{Kind}
 use Rattle.gtfs_merge.specs.declared.kind.Side.{Side}
 use Rattle.gtfs_merge.specs.declared.kind.Side.TheVariants as side

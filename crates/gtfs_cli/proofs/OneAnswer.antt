@@ -8,7 +8,7 @@ use Rattle.gtfs_devices.specs.Folder.{Store}
 use Rattle.gtfs_table.specs.Tables.{Dataset}
 use Rattle.gtfs_rows.specs.Content.{Content}
 use Rattle.gtfs_rows.specs.Departures.{Origins}
-use Rattle.gtfs_rows.specs.Reading.{content_of}
+use Rattle.gtfs_rows.specs.ContentRead.{content_of}
 use Rattle.gtfs_times.specs.declared.times.Times.{Times}
 use Rattle.gtfs_commands.specs.Words.{ServeTexts}
 use Rattle.gtfs_cli.specs.ServeAnswers.{IsLineText, IsQuestion, AnswersWhole, IsWholeText}

@@ -7,12 +7,12 @@ use Rattle.gtfs_days.specs.declared.zone.Zone.{Zone}
 use Rattle.gtfs_devices.specs.Folder.{Store}
 use Rattle.gtfs_table.specs.Tables.{Dataset}
 use Rattle.gtfs_rows.specs.Content.{Content}
-use Rattle.gtfs_rows.specs.Reading.{content_of}
+use Rattle.gtfs_rows.specs.ContentRead.{content_of}
 use Rattle.gtfs_board.specs.Board.{is_stop, keys_of}
 use Rattle.gtfs_rows.specs.Departures.{IsBoard, Origins}
 use Rattle.gtfs_rows.specs.Key.{Key}
 use Rattle.gtfs_times.specs.Filling.{timed}
-use Rattle.gtfs_board.specs.Page.{IsCutShort, IsPage, IsStopped}
+use Rattle.gtfs_board.specs.BoardPage.{IsCutShort, IsPage, IsStopped}
 use Rattle.gtfs_board.proofs.OneBoard.{one-board as one-list-of-keys}
 use Rattle.gtfs_commands.specs.Words.{BoardTexts}
 use Rattle.gtfs_cli.specs.BoardCommand.{LiesBefore, BoardSetting, board_judges, board_plan, stop_and_span, IsBoardText, IsStopCause, IsTextOf}

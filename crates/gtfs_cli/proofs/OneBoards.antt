@@ -7,7 +7,7 @@ use Rattle.gtfs_devices.specs.Folder.{Store}
 use Rattle.gtfs_table.specs.Tables.{without_marks, Dataset}
 use Rattle.gtfs_rows.specs.Content.{Content}
 use Rattle.gtfs_rows.specs.Departures.{Origins}
-use Rattle.gtfs_rows.specs.Reading.{content_of}
+use Rattle.gtfs_rows.specs.ContentRead.{content_of}
 use Rattle.gtfs_commands.specs.Words.{BoardsTexts}
 use Rattle.gtfs_cli.specs.FilesInFolders.{HoldsNoUtf8, HoldsSomeZone, HoldsBytes, HoldsPassing}
 use Rattle.gtfs_cli.specs.RefusalOrder.{feed, followed_by, sending, zone, Judged}

@@ -13,7 +13,7 @@ use Rattle.gtfs_cli.specs.FilesInFolders.{HoldsTables}
 use Rattle.gtfs_cli.specs.RefusalOrder.{followed_by, sending, tables, values, Judged}
 use Rattle.gtfs_cli.specs.RefusalMessages.{line_of}
 use Rattle.gtfs_cli.specs.SharedOptions.{first_of_bad}
-use Rattle.gtfs_cli.specs.Sending.{joined, Begins}
+use Rattle.gtfs_cli.specs.SentText.{joined, Begins}
 use Rattle.gtfs_cli.specs.declared.commands.refusal.Refusal.{Refusal}
 use Rattle.gtfs_cli.specs.declared.commands.refusal.Refusal.TheVariants.{DayWithoutAdvice}
 use Rattle.gtfs_cli.proofs.Checked.{none-bad-check}

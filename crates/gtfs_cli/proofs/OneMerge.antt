@@ -3,9 +3,9 @@ use Rattle.std.proofs.Common.{◌≡◌, ◌∙◌, ap, sym, subst, refl, ℕ, �
 use Rattle.std.specs.Prelude.{unwrap_or}
 use Rattle.gtfs_devices.specs.Device.{Rises}
 use Rattle.gtfs_devices.specs.Folder.{Store}
-use Rattle.gtfs_table.specs.Reading.{kept_files}
+use Rattle.gtfs_table.specs.TablesRead.{kept_files}
 use Rattle.gtfs_rows.specs.Content.{Content}
-use Rattle.gtfs_rows.specs.Reading.{content_of}
+use Rattle.gtfs_rows.specs.ContentRead.{content_of}
 use Rattle.gtfs_merge.specs.Merged.{is_too_large, zone_texts_differ}
 use Rattle.gtfs_commands.specs.Words.{MergeTexts}
 use Rattle.gtfs_cli.specs.FilesInFolders.{HoldsPassing}
@@ -13,7 +13,7 @@ use Rattle.gtfs_cli.specs.RefusalOrder.{feed, followed_by, sending, values, Judg
 use Rattle.gtfs_cli.specs.MergeOptions.{first_bad_merge, judged_merge, IsMergeRequest, MergeRequest}
 use Rattle.gtfs_cli.specs.MergeCommand.{file_limit, merge_judges, merge_of, merge_plan, merging, report_for, with_files, writing, CanMerge, HasLargeMerge, IsFolderMerge, IsMerged, IsMergingCause, IsWritingCause, MergeLeaves, MergeSetting}
 use Rattle.gtfs_cli.specs.RefusalMessages.{line_of, message}
-use Rattle.gtfs_cli.specs.Outcomes.{IsPlainRefusal}
+use Rattle.gtfs_cli.specs.CommandOutcomes.{IsPlainRefusal}
 use Rattle.gtfs_cli.specs.Refusals.{status_of}
 use Rattle.gtfs_cli.specs.declared.commands.refusal.Refusal.{Refusal}
 use Rattle.gtfs_cli.specs.declared.commands.refusal.Refusal.TheVariants.{MergeTooLarge, OutputFailed, OutOfMemory, Unwritable, ZonesDiffer}

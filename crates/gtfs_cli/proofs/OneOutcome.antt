@@ -6,11 +6,11 @@ use Rattle.gtfs_devices.specs.Folder.{Store}
 use Rattle.gtfs_cli.specs.Failures.{FailedNowhere}
 use Rattle.gtfs_cli.specs.RefusalOrder.{Judged}
 use Rattle.gtfs_cli.specs.RefusalMessages.{message}
-use Rattle.gtfs_cli.specs.Outcomes.{EndsAsOne, IsOutcome, IsPlainRefusal, IsUnhindered, Outcome}
+use Rattle.gtfs_cli.specs.CommandOutcomes.{EndsAsOne, IsOutcome, IsPlainRefusal, IsUnhindered, Outcome}
 use Rattle.gtfs_cli.specs.CommandPlan.{failures_of, prints, Ends, IsRun, Plan, TellsEnd}
 use Rattle.gtfs_cli.specs.Refusals.{status_in, status_of}
 use Rattle.gtfs_cli.specs.DevicesSeen.{Devices, Output}
-use Rattle.gtfs_cli.specs.Sending.{or_none, text_left, Sends}
+use Rattle.gtfs_cli.specs.SentText.{or_none, text_left, Sends}
 use Rattle.gtfs_cli.specs.declared.commands.refusal.Refusal.{Refusal}
 use Rattle.gtfs_cli.specs.declared.commands.refusal.Refusal.TheVariants.{OutputFailed, OutOfMemory}
 use Rattle.gtfs_cli.proofs.OneRefusal.{One, Quiet}

@@ -8,9 +8,9 @@ use Rattle.gtfs_days.specs.Zone.{SaysSame}
 use Rattle.gtfs_days.specs.declared.zone.Zone.{Zone}
 use Rattle.gtfs_rows.specs.Content.{Content}
 use Rattle.gtfs_board.specs.Board.{keys_of}
-use Rattle.gtfs_board.specs.Lines.{line_text, IsLine, Listed}
-use Rattle.gtfs_board.specs.Page.{AreLines, IsPage}
-use Rattle.gtfs_board.specs.Shown.{shown, IsShown}
+use Rattle.gtfs_board.specs.BoardLines.{line_text, IsLine, Listed}
+use Rattle.gtfs_board.specs.BoardPage.{AreLines, IsPage}
+use Rattle.gtfs_board.specs.ShownTrips.{shown, IsShown}
 
 -- ---- what is listed
 

@@ -5,7 +5,7 @@ use Rattle.clap.specs.Words.{Text}
 use Rattle.gtfs_cli.specs.RefusalOrder.{followed_by, sending, values, IsFirstBad, Judged}
 use Rattle.gtfs_cli.specs.RefusalMessages.{line_of, message}
 use Rattle.gtfs_cli.specs.SharedOptions.{first_of_bad}
-use Rattle.gtfs_cli.specs.Outcomes.{IsPlainRefusal}
+use Rattle.gtfs_cli.specs.CommandOutcomes.{IsPlainRefusal}
 use Rattle.gtfs_cli.specs.Refusals.{status_of}
 use Rattle.gtfs_cli.specs.declared.commands.refusal.Refusal.{Refusal}
 use Rattle.gtfs_cli.specs.declared.commands.refusal.Refusal.TheVariants.{BadValue, OutputFailed, OutOfMemory}

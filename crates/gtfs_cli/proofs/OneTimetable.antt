@@ -5,14 +5,14 @@ use Rattle.std.specs.Result.{result_ok}
 use Rattle.gtfs_devices.specs.Folder.{Store}
 use Rattle.gtfs_table.specs.Tables.{Dataset}
 use Rattle.gtfs_field.specs.declared.fault.FieldFault.{FieldFault}
-use Rattle.gtfs_rows.specs.Reading.{content_of}
+use Rattle.gtfs_rows.specs.ContentRead.{content_of}
 use Rattle.gtfs_board.specs.Timetable.{is_route}
 use Rattle.gtfs_commands.specs.Words.{TimetableTexts}
 use Rattle.gtfs_cli.specs.FilesInFolders.{HoldsPassing}
 use Rattle.gtfs_cli.specs.RefusalOrder.{feed, followed_by, sending, values, Judged}
 use Rattle.gtfs_cli.specs.RefusalMessages.{line_of}
 use Rattle.gtfs_cli.specs.CommandPlan.{passed}
-use Rattle.gtfs_cli.specs.Sending.{Begins}
+use Rattle.gtfs_cli.specs.SentText.{Begins}
 use Rattle.gtfs_cli.specs.TimetableOptions.{first_bad_timetable, judged_timetable, IsTimetableRequest, TimetableRequest}
 use Rattle.gtfs_cli.specs.TimetableCommand.{route, timetable_judges, timetable_plan, timetable_text, IsRouteCause, IsTimetablePart, IsTimetableText}
 use Rattle.gtfs_cli.specs.declared.commands.refusal.Refusal.{Refusal}

@@ -10,10 +10,10 @@ use Rattle.gtfs_board.specs.Board.{is_stop, keys_of}
 use Rattle.gtfs_rows.specs.Departures.{IsBoard}
 use Rattle.gtfs_rows.specs.Key.{Key}
 use Rattle.gtfs_times.specs.Filling.{timed}
-use Rattle.gtfs_board.specs.Lent.{plain_key}
-use Rattle.gtfs_board.specs.Lines.{Listed}
-use Rattle.gtfs_board.specs.Shown.{IsShown}
-use Rattle.gtfs_board.specs.Span.{is_span}
+use Rattle.gtfs_board.specs.LentKeys.{plain_key}
+use Rattle.gtfs_board.specs.BoardLines.{Listed}
+use Rattle.gtfs_board.specs.ShownTrips.{IsShown}
+use Rattle.gtfs_board.specs.BoardSpan.{is_span}
 use Rattle.gtfs_board.specs.declared.key.Key.{Key as LentKey}
 use Rattle.gtfs_board.specs.declared.span.Span.{Span}
 use Rattle.gtfs_cli.specs.BoardCommand.{ListsBoard}

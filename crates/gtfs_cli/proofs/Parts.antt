@@ -4,7 +4,7 @@ use Rattle.std.specs.Prelude.{IfErr, OnErr}
 use Rattle.std.specs.Io.KnownBytes.{Appends, Keeps}
 use Rattle.std.proofs.KnownBytes.{Appends-nil, Appends-trans}
 use Rattle.gtfs_devices.specs.declared.output.OutFault.{OutFault}
-use Rattle.gtfs_cli.specs.Sending.{SendsBeginning}
+use Rattle.gtfs_cli.specs.SentText.{SendsBeginning}
 
 -- ---- beginnings
 

@@ -11,7 +11,7 @@ use Rattle.gtfs_cli.specs.CommandPlan.{answer_of, passed, prints, Ends, IsRefuse
 use Rattle.gtfs_cli.specs.FolderCalls.{CallsFolders}
 use Rattle.gtfs_cli.specs.Refusals.{TellsFolders, TellsOutput}
 use Rattle.gtfs_cli.specs.DevicesSeen.{Device, Output}
-use Rattle.gtfs_cli.specs.Sending.{joined, or_none, text_left, AreWholeLines, AreSent, Begins, IsSendingCause, IsSent, PrintsText, SendsSome}
+use Rattle.gtfs_cli.specs.SentText.{joined, or_none, text_left, AreWholeLines, AreSent, Begins, IsSendingCause, IsSent, PrintsText, SendsSome}
 use Rattle.gtfs_cli.specs.declared.commands.refusal.Refusal.{Refusal}
 use Rattle.gtfs_cli.specs.declared.commands.refusal.Refusal.TheVariants.{OutputFailed, OutOfMemory}
 use Rattle.gtfs_cli.proofs.FailuresTold.{output-kept, sending-told}

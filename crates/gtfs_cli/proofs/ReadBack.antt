@@ -4,10 +4,10 @@ use Rattle.std.specs.FinMap as finmap
 use Rattle.std.specs.List.{All, list_all}
 use Rattle.std.specs.Ordering.{eq_by_cmp}
 use Rattle.std.proofs.lemmas.Bool.{and_parts}
-use Rattle.gtfs_table.specs.Files.{file_name}
+use Rattle.gtfs_table.specs.FileNames.{file_name}
 use Rattle.gtfs_devices.specs.Folder.{files_of, put, Files, Store}
 use Rattle.gtfs_field.specs.TextOrder.{text_cmp}
-use Rattle.gtfs_table.specs.Reading.{dataset_of, kept_files, other_names, table_in, HoldsDataset}
+use Rattle.gtfs_table.specs.TablesRead.{dataset_of, kept_files, other_names, table_in, HoldsDataset}
 use Rattle.gtfs_table.specs.Tables.{table_of, table_of_bytes, Dataset}
 use Rattle.gtfs_table.specs.declared.file.File.{File}
 use Rattle.gtfs_table.specs.declared.file.File.TheVariants as file
@@ -15,8 +15,8 @@ use Rattle.gtfs_devices.proofs.FolderLemmas.{get-insert-same}
 use Rattle.gtfs_field.proofs.TextOrderFacts.{texts_total}
 use Rattle.gtfs_schema.specs.Problems.{Passes}
 use Rattle.gtfs_rows.specs.Content.{Content}
-use Rattle.gtfs_rows.specs.Reading.{content_of}
-use Rattle.gtfs_rows.specs.Written.{written, written_beside}
+use Rattle.gtfs_rows.specs.ContentRead.{content_of}
+use Rattle.gtfs_rows.specs.WrittenContent.{written, written_beside}
 use Rattle.gtfs_rows.specs.WrittenForm.{IsWrittenForm}
 use Rattle.gtfs_cli.specs.MergeParts.{ReadsAs}
 use Rattle.gtfs_cli.specs.MergeCommand.{file_text, with_files, HoldsFiles, ReadsAgain}

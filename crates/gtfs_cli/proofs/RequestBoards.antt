@@ -8,15 +8,15 @@ use Rattle.std.proofs.lemmas.List.{drop_all, drop_more}
 use Rattle.gtfs_days.specs.declared.zone.Zone.{Zone}
 use Rattle.gtfs_days.specs.Zone.{zone_origin}
 use Rattle.gtfs_rows.specs.Content.{Content}
-use Rattle.gtfs_board.specs.Lines.{Listed}
-use Rattle.gtfs_board.specs.Page.{IsCutShort, IsPage, IsStopped}
+use Rattle.gtfs_board.specs.BoardLines.{Listed}
+use Rattle.gtfs_board.specs.BoardPage.{IsCutShort, IsPage, IsStopped}
 use Rattle.gtfs_times.specs.declared.times.Times.{Times}
 use Rattle.gtfs_cli.specs.BoardCommand.{ListsBoard}
 use Rattle.gtfs_cli.specs.BoardsCommand.{AreAllBoards, AreBoards, BeginsBoard, BeginsWhole, IsOneText, IsRequestText, StopsIn, StopsInAll}
 use Rattle.gtfs_cli.specs.BoardsRequests.{fault_in, request_heading, stop_request, StopRequest}
 use Rattle.gtfs_cli.specs.Refusals.{TellsOutput}
 use Rattle.gtfs_cli.specs.DevicesSeen.{Output}
-use Rattle.gtfs_cli.specs.Sending.{or_none, text_left, IsSendingCause, PrintsText}
+use Rattle.gtfs_cli.specs.SentText.{or_none, text_left, IsSendingCause, PrintsText}
 use Rattle.gtfs_cli.specs.declared.commands.refusal.Refusal.{Refusal}
 use Rattle.gtfs_cli.specs.declared.commands.refusal.Refusal.TheVariants.{OutputFailed, OutOfMemory}
 use Rattle.gtfs_cli.proofs.Parts.{some-sent}

@@ -3,7 +3,7 @@ use Rattle.std.proofs.Common.{◌≡◌, ℕ, true, false, List, Option, Some, N
 use Rattle.std.specs.Prelude.{bytes_eq, int_lt, is_some, option_map, position}
 use Rattle.gtfs_rows.specs.Content.{Content}
 use Rattle.gtfs_rows.specs.Departures.{Origins}
-use Rattle.gtfs_rows.specs.Views.{content_of_parts, stop_ids}
+use Rattle.gtfs_rows.specs.RowsInMemory.{content_of_parts, stop_ids}
 use Rattle.gtfs_rows.specs.declared.parts.Parts.{Parts}
 use Rattle.gtfs_board.specs.Board.{is_stop}
 use Rattle.gtfs_board.proofs.Opened.{stop_none, stop_some}

@@ -5,7 +5,7 @@ use Rattle.std.proofs.KnownBytes.{Appends-nil, Appends-trans}
 use Rattle.std.proofs.Math.Seq.{take-suc}
 use Rattle.std.proofs.lemmas.Grind.{flat_map-append}
 use Rattle.gtfs_cli.specs.DevicesSeen.{Output}
-use Rattle.gtfs_cli.specs.Sending.{joined, AreSent, IsSent}
+use Rattle.gtfs_cli.specs.SentText.{joined, AreSent, IsSent}
 use Rattle.gtfs_cli.specs.declared.commands.refusal.Refusal.{Refusal}
 use Rattle.gtfs_cli.specs.declared.commands.refusal.Refusal.TheVariants.{OutputFailed, OutOfMemory}
 use Rattle.gtfs_cli.proofs.Sent.{item-failed, item-sent, items-sent, sent-both, sent-first, sent-passed, sent-same, sent-unmade, sent-whole, SentWhole}

@@ -8,7 +8,7 @@ use Rattle.gtfs_conversation.specs.declared.conversation.ConversationFault.TheVa
 use Rattle.gtfs_days.specs.declared.zone.Zone.{Zone}
 use Rattle.gtfs_devices.specs.Folder.{Store}
 use Rattle.gtfs_rows.specs.Content.{Content}
-use Rattle.gtfs_rows.specs.Views.{content_of_parts}
+use Rattle.gtfs_rows.specs.RowsInMemory.{content_of_parts}
 use Rattle.gtfs_rows.specs.declared.parts.Parts.{Parts as Feed}
 use Rattle.gtfs_times.specs.declared.times.Times.{Times}
 use Rattle.gtfs_commands.specs.Words.{ServeTexts}
@@ -21,7 +21,7 @@ use Rattle.gtfs_cli.specs.CommandPlan.{answer_of, Ends, IsRefusedIn}
 use Rattle.gtfs_cli.specs.FolderCalls.{CallsFolders}
 use Rattle.gtfs_cli.specs.Refusals.{status_in}
 use Rattle.gtfs_cli.specs.DevicesSeen.{Device, Devices, Output as Told, Talk}
-use Rattle.gtfs_cli.specs.Sending.{IsSendingCause, SendsSome}
+use Rattle.gtfs_cli.specs.SentText.{IsSendingCause, SendsSome}
 use Rattle.gtfs_cli.specs.ServeCommand.{serve_judges, serve_plan, Converses, ConversesUntil, IsHearingCause, ServeSetting, ServesUntil}
 use Rattle.gtfs_cli.specs.declared.commands.refusal.Refusal.{Refusal}
 use Rattle.gtfs_cli.specs.declared.commands.refusal.Refusal.TheVariants.{InputFailed, OutputFailed, OutOfMemory}

@@ -4,7 +4,7 @@ use Rattle.std.specs.Prelude.{chars, encode_utf8, encode_utf8_all, if◌then◌e
 use Rattle.std.specs.Result.{is_ok}
 use Rattle.std.proofs.lemmas.Grind.{common_steps}
 use Rattle.std.proofs.lemmas.List.{map-append}
-use Rattle.gtfs_schema.specs.Values.{plain}
+use Rattle.gtfs_schema.specs.FieldValues.{plain}
 use Rattle.gtfs_cli.specs.CheckLines.{shown_value}
 use Rattle.gtfs_schema.proofs.PlainTexts.{plain-past, shown}
 

@@ -8,7 +8,7 @@ use Rattle.std.proofs.lemmas.List.Folds.{flat_map-map}
 use Rattle.std.proofs.lemmas.Bool.{true_from_ne_false}
 use Rattle.gtfs_devices.specs.Folder.{Store}
 use Rattle.gtfs_rows.specs.Content.{Content}
-use Rattle.gtfs_rows.specs.Views.{content_of_parts}
+use Rattle.gtfs_rows.specs.RowsInMemory.{content_of_parts}
 use Rattle.gtfs_rows.specs.declared.parts.Parts.{Parts as Feed}
 use Rattle.gtfs_board.specs.LentSheets.{plain_sheet}
 use Rattle.gtfs_board.specs.Timetable.{is_route, sheet_text, sheets, Sheet as Sheets}
@@ -19,7 +19,7 @@ use Rattle.gtfs_cli.specs.FilesInFolders.{HoldsFeed}
 use Rattle.gtfs_cli.specs.Failures.{FailedNowhere, Failures}
 use Rattle.gtfs_cli.specs.CommandPlan.{IsRefusedIn}
 use Rattle.gtfs_cli.specs.DevicesSeen.{Output}
-use Rattle.gtfs_cli.specs.Sending.{text_left, AreFirst, Begins, IsSendingCause, IsSent, PrintsText, SendsSome}
+use Rattle.gtfs_cli.specs.SentText.{text_left, AreFirst, Begins, IsSendingCause, IsSent, PrintsText, SendsSome}
 use Rattle.gtfs_cli.specs.TimetableOptions.{first_bad_timetable, IsTimetableRequest, TimetableRequest}
 use Rattle.gtfs_cli.specs.TimetableCommand.{timetable_judges, timetable_text, AreFirstSheets, AreSheets, IsRouteCause, IsSheetsCause, IsTimetablePart, IsTimetableText, TimetableSetting}
 use Rattle.gtfs_cli.specs.declared.commands.refusal.Refusal.{Refusal}

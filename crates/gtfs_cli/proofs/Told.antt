@@ -4,7 +4,7 @@ use Rattle.std.specs.Prelude.{IfErr, OnErr, OnOk}
 use Rattle.std.specs.Io.KnownBytes.{Appends}
 use Rattle.gtfs_devices.specs.Device.{Rises}
 use Rattle.gtfs_devices.specs.declared.output.OutFault.{OutFault}
-use Rattle.gtfs_cli.specs.Sending.{Output, Sends}
+use Rattle.gtfs_cli.specs.SentText.{Output, Sends}
 
 -- a text went out whole, or its first bytes did
 pub sent-so : {A : Type 0} (r : Result A OutFault) (before after : Output) (text : List ℕ) → OnOk r (Appends before.told after.told text)

@@ -1,12 +1,12 @@
 -- Why two folders are not merged, and what is left then.
 use Rattle.std.proofs.Common.{◌≡◌, ◌∙◌, ap, refl, subst, ℕ, ◌<◌, length, ◌⊎◌, inl, inr, true, false, List, [], ◌++◌, Option, None, Result, Ok, Err, sym}
 use Rattle.gtfs_devices.specs.Folder.{Store}
-use Rattle.gtfs_table.specs.Reading.{kept_files}
+use Rattle.gtfs_table.specs.TablesRead.{kept_files}
 use Rattle.gtfs_rows.specs.Content.{Content}
-use Rattle.gtfs_rows.specs.Reading.{content_of}
-use Rattle.gtfs_rows.specs.Views.{content_of_parts}
+use Rattle.gtfs_rows.specs.ContentRead.{content_of}
+use Rattle.gtfs_rows.specs.RowsInMemory.{content_of_parts}
 use Rattle.gtfs_rows.specs.declared.parts.Parts.{Parts as Feed}
-use Rattle.gtfs_rows.specs.Trimmed.{first_part, second_part}
+use Rattle.gtfs_rows.specs.TrimmedContent.{first_part, second_part}
 use Rattle.gtfs_merge.specs.Merged.{is_too_large, zone_texts_differ}
 use Rattle.gtfs_merge.specs.Merging.{IsMergeOf, KeepsDepartures}
 use Rattle.gtfs_merge.specs.declared.merging.Merged.{Merged}
@@ -21,7 +21,7 @@ use Rattle.gtfs_cli.specs.CommandPlan.{answer_of, Ends, IsRefusedIn}
 use Rattle.gtfs_cli.specs.FolderCalls.{CallsFolders}
 use Rattle.gtfs_cli.specs.ReadingCauses.{IsReadingCause}
 use Rattle.gtfs_cli.specs.DevicesSeen.{Device, Output}
-use Rattle.gtfs_cli.specs.Sending.{IsSendingCause, IsSent}
+use Rattle.gtfs_cli.specs.SentText.{IsSendingCause, IsSent}
 use Rattle.gtfs_cli.specs.declared.commands.refusal.Refusal.{Refusal}
 use Rattle.gtfs_cli.specs.declared.commands.refusal.Refusal.TheVariants.{ZonesDiffer, MergeTooLarge, Unwritable, OutputFailed, OutOfMemory}
 use Rattle.gtfs_cli.proofs.FailuresTold.{sending-told}

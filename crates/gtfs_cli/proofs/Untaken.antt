@@ -13,7 +13,7 @@ use Rattle.gtfs_cli.specs.UntakenWords.{words_plan, IsAnswer, IsWordsCause, text
 use Rattle.gtfs_cli.specs.CommandPlan.{Ends}
 use Rattle.gtfs_cli.specs.Refusals.{TellsOutput}
 use Rattle.gtfs_cli.specs.DevicesSeen.{Device, Output, Talk}
-use Rattle.gtfs_cli.specs.Sending.{or_none, Begins, PrintsText}
+use Rattle.gtfs_cli.specs.SentText.{or_none, Begins, PrintsText}
 use Rattle.gtfs_cli.specs.declared.commands.refusal.Refusal.{Refusal}
 use Rattle.gtfs_cli.specs.declared.commands.refusal.Refusal.TheVariants.{OutOfMemory, OutputFailed}
 use Rattle.gtfs_cli.proofs.Parts.{appends-nothing, some-sent}

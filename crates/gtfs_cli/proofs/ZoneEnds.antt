@@ -14,7 +14,7 @@ use Rattle.gtfs_cli.specs.ReadingCauses.{IsPathCause, IsZoneCause}
 use Rattle.gtfs_cli.specs.RefusalOrder.{zone}
 use Rattle.gtfs_cli.specs.BoardsCommand.{request_file}
 use Rattle.gtfs_cli.specs.RefusalMessages.{line_of}
-use Rattle.gtfs_cli.specs.Outcomes.{IsPlainRefusal}
+use Rattle.gtfs_cli.specs.CommandOutcomes.{IsPlainRefusal}
 use Rattle.gtfs_cli.specs.declared.commands.refusal.Refusal.{Refusal}
 use Rattle.gtfs_cli.specs.declared.commands.refusal.Refusal.TheVariants.{NotThere, Unreadable, OverLimit, NoZone, OutOfMemory}
 use Rattle.gtfs_cli.proofs.OneRefusal.{alike, line-at, Alike, Excludes, One, Quiet, Says}

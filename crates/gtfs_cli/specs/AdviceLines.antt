@@ -1,7 +1,7 @@
 -- The lines of advice that `gtfs check --advise` prints of a feed without errors, and its last line.
 use Rattle.std.specs.Prelude.{ℕ, ◌==◌, Bool, not, if◌then◌else◌, List, ◌++◌, map, count_by, codes, decimal, Option, None}
 use Rattle.gtfs_field.specs.Canonical.{date_text}
-use Rattle.gtfs_table.specs.Files.{file_name}
+use Rattle.gtfs_table.specs.FileNames.{file_name}
 use Rattle.gtfs_schema.specs.Codes.{is_error}
 use Rattle.gtfs_schema.specs.Problems.{Problem}
 use Rattle.gtfs_advice.specs.Advice.{day, nothing, row, About}

@@ -6,19 +6,19 @@ use Rattle.gtfs_devices.specs.Folder.{Store}
 use Rattle.gtfs_table.specs.Tables.{Dataset}
 use Rattle.gtfs_schema.specs.Problems.{Passes}
 use Rattle.gtfs_rows.specs.Content.{Content}
-use Rattle.gtfs_rows.specs.Reading.{content_of}
+use Rattle.gtfs_rows.specs.ContentRead.{content_of}
 use Rattle.gtfs_times.specs.Filling.{timed}
 use Rattle.gtfs_board.specs.Board.{is_stop, keys_of}
 use Rattle.gtfs_rows.specs.Departures.{IsBoard}
-use Rattle.gtfs_board.specs.Lines.{Listed}
-use Rattle.gtfs_board.specs.Page.{IsCutShort, IsPage, IsStopped}
-use Rattle.gtfs_board.specs.Shown.{IsShown}
+use Rattle.gtfs_board.specs.BoardLines.{Listed}
+use Rattle.gtfs_board.specs.BoardPage.{IsCutShort, IsPage, IsStopped}
+use Rattle.gtfs_board.specs.ShownTrips.{IsShown}
 use Rattle.gtfs_commands.specs.Words.{BoardTexts}
 use Rattle.gtfs_cli.specs.BoardOptions.{instant_at, judged_board, BoardRequest, IsBoardRequest}
 use Rattle.gtfs_cli.specs.FilesInFolders.{HoldsTables, HoldsZone}
 use Rattle.gtfs_cli.specs.RefusalOrder.{feed, followed_by, sending, values, zone, Judged}
 use Rattle.gtfs_cli.specs.CommandPlan.{passed, prints, Plan}
-use Rattle.gtfs_cli.specs.Sending.{Output, PrintsText}
+use Rattle.gtfs_cli.specs.SentText.{Output, PrintsText}
 use Rattle.gtfs_cli.specs.declared.commands.refusal.Refusal.{Refusal}
 use Rattle.gtfs_cli.specs.declared.commands.refusal.Refusal.TheVariants.{UnknownStop, UntilBeforeFrom, OutOfMemory}
 

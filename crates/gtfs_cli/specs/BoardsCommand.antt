@@ -6,9 +6,9 @@ use Rattle.gtfs_devices.specs.Folder.{Store}
 use Rattle.gtfs_table.specs.Tables.{without_marks, Dataset}
 use Rattle.gtfs_schema.specs.Problems.{Passes}
 use Rattle.gtfs_rows.specs.Content.{Content}
-use Rattle.gtfs_rows.specs.Reading.{content_of}
+use Rattle.gtfs_rows.specs.ContentRead.{content_of}
 use Rattle.gtfs_board.specs.Board.{is_stop}
-use Rattle.gtfs_board.specs.Page.{IsCutShort, IsPage, IsStopped}
+use Rattle.gtfs_board.specs.BoardPage.{IsCutShort, IsPage, IsStopped}
 use Rattle.gtfs_commands.specs.Words.{BoardsTexts}
 use Rattle.gtfs_cli.specs.BoardCommand.{GoesOut, IsOpeningCause, IsTextOf}
 use Rattle.gtfs_cli.specs.FilesInFolders.{HoldsNoUtf8, HoldsUtf8, HoldsBytes, HoldsTables, HoldsZone}

@@ -3,7 +3,7 @@ use Rattle.std.specs.Prelude.{◌≡◌, ◌&&◌, ℕ, Bool, false, not, if◌t
 use Rattle.gtfs_devices.specs.Folder.{Store}
 use Rattle.gtfs_table.specs.Tables.{Dataset}
 use Rattle.gtfs_schema.specs.Problems.{Problem, passes, IsReport}
-use Rattle.gtfs_rows.specs.Reading.{content_of}
+use Rattle.gtfs_rows.specs.ContentRead.{content_of}
 use Rattle.gtfs_rules.specs.Report.{counts_line}
 use Rattle.gtfs_advice.specs.Advice.{advice, About}
 use Rattle.gtfs_advice.specs.declared.code.Code.{Code}
@@ -15,7 +15,7 @@ use Rattle.gtfs_cli.specs.FilesInFolders.{HoldsTables}
 use Rattle.gtfs_cli.specs.RefusalOrder.{followed_by, sending, tables, values, Judged}
 use Rattle.gtfs_cli.specs.SharedOptions.{day_if_given}
 use Rattle.gtfs_cli.specs.CommandPlan.{prints, Plan}
-use Rattle.gtfs_cli.specs.Sending.{joined, AreWholeLines, Begins}
+use Rattle.gtfs_cli.specs.SentText.{joined, AreWholeLines, Begins}
 
 -- ---- the lines
 

@@ -6,7 +6,7 @@ use Rattle.gtfs_table.specs.Rows.{records_in}
 use Rattle.gtfs_table.specs.Tables.{value, Dataset}
 use Rattle.gtfs_schema.specs.Codes.{code_name, code_text}
 use Rattle.gtfs_schema.specs.Problems.{kept, name_bytes, other, problem_cmp, FileName, Problem}
-use Rattle.gtfs_schema.specs.Values.{plain}
+use Rattle.gtfs_schema.specs.FieldValues.{plain}
 use Rattle.gtfs_commands.specs.Words.{CheckTexts}
 use Rattle.gtfs_rules.specs.Report.{problem_line}
 use Rattle.gtfs_cli.specs.FirstOfEachKind.{firsts}

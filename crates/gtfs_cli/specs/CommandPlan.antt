@@ -8,7 +8,7 @@ use Rattle.gtfs_cli.specs.RefusalMessages.{message}
 use Rattle.gtfs_cli.specs.FolderCalls.{CallsFolders}
 use Rattle.gtfs_cli.specs.Refusals.{status_in, TellsOutput}
 use Rattle.gtfs_cli.specs.DevicesSeen.{Devices, Output}
-use Rattle.gtfs_cli.specs.Sending.{or_none, text_left, Sends, SendsSome}
+use Rattle.gtfs_cli.specs.SentText.{or_none, text_left, Sends, SendsSome}
 use Rattle.gtfs_cli.specs.declared.commands.refusal.Refusal.{Refusal}
 use Rattle.gtfs_cli.specs.declared.commands.refusal.Refusal.TheVariants.{OutOfMemory}
 

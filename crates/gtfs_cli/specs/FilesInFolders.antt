@@ -4,14 +4,14 @@ use Rattle.std.specs.Prelude.{◌≡◌, ◌≢◌, ◌<◌, ◌≤◌, ◌++◌
 use Rattle.std.specs.Path.{slash}
 use Rattle.gtfs_days.specs.Zone.{IsTooLong, IsUnreadable, IsZoneOf}
 use Rattle.gtfs_days.specs.declared.zone.Zone.{Zone}
-use Rattle.gtfs_table.specs.Files.{file_name}
+use Rattle.gtfs_table.specs.FileNames.{file_name}
 use Rattle.gtfs_devices.specs.Folder.{Store, Finds, HasFileOver, LacksFolder}
-use Rattle.gtfs_table.specs.Reading.{kept_files, AllHoldWithin, HoldsDataset}
+use Rattle.gtfs_table.specs.TablesRead.{kept_files, AllHoldWithin, HoldsDataset}
 use Rattle.gtfs_table.specs.Tables.{without_marks, Dataset}
 use Rattle.gtfs_table.specs.declared.file.File.{File}
 use Rattle.gtfs_schema.specs.Problems.{Passes}
-use Rattle.gtfs_rows.specs.Reading.{content_of}
-use Rattle.gtfs_rows.specs.Views.{content_of_parts}
+use Rattle.gtfs_rows.specs.ContentRead.{content_of}
+use Rattle.gtfs_rows.specs.RowsInMemory.{content_of_parts}
 use Rattle.gtfs_rows.specs.declared.parts.Parts.{Parts as Feed}
 
 -- ---- the file that a path names

@@ -1,6 +1,6 @@
 -- The values of a board's options and the requests of a file as the code has them, with lent texts.
 use Rattle.std.specs.Prelude.{option_map}
-use Rattle.gtfs_board.specs.Lent.{plain_key}
+use Rattle.gtfs_board.specs.LentKeys.{plain_key}
 use Rattle.gtfs_commands.specs.Words.{BoardTexts}
 use Rattle.gtfs_cli.specs.BoardOptions.{BoardRequest, IsBoardRequest, IsSound}
 use Rattle.gtfs_cli.specs.BoardsRequests.{RequestTexts, StopRequest}

@@ -1,26 +1,26 @@
 -- What `gtfs merge` makes of two folders: the merged feed, the files of its written form, and its report.
 use Rattle.std.specs.Prelude.{◌≡◌, ◌<◌, ◌⊎◌, ⊤, ℕ, true, false, length, List, [], ◌∷◌, ◌++◌, Option, Some, None, unwrap_or}
 use Rattle.gtfs_devices.specs.Device.{Rises}
-use Rattle.gtfs_table.specs.Files.{file_name}
+use Rattle.gtfs_table.specs.FileNames.{file_name}
 use Rattle.gtfs_devices.specs.Folder.{put, Disturbs, Store}
-use Rattle.gtfs_table.specs.Reading.{kept_files, HoldsDataset}
+use Rattle.gtfs_table.specs.TablesRead.{kept_files, HoldsDataset}
 use Rattle.gtfs_table.specs.Tables.{table_of, Dataset}
-use Rattle.gtfs_table.specs.Written.{text_of_table}
+use Rattle.gtfs_table.specs.TableTexts.{text_of_table}
 use Rattle.gtfs_table.specs.declared.file.File.{File}
 use Rattle.gtfs_schema.specs.Problems.{Passes}
 use Rattle.gtfs_rows.specs.Content.{Content}
-use Rattle.gtfs_rows.specs.Reading.{content_of}
-use Rattle.gtfs_rows.specs.Written.{written}
-use Rattle.gtfs_rows.specs.Trimmed.{first_part, second_part}
+use Rattle.gtfs_rows.specs.ContentRead.{content_of}
+use Rattle.gtfs_rows.specs.WrittenContent.{written}
+use Rattle.gtfs_rows.specs.TrimmedContent.{first_part, second_part}
 use Rattle.gtfs_merge.specs.Cutoff.{merged_as}
 use Rattle.gtfs_merge.specs.Merged.{is_too_large, zone_texts_differ}
 use Rattle.gtfs_merge.specs.Merging.{KeepsDepartures}
-use Rattle.gtfs_merge.specs.Near.{report as report_of}
+use Rattle.gtfs_merge.specs.NearStops.{report as report_of}
 use Rattle.gtfs_commands.specs.Words.{MergeTexts}
 use Rattle.gtfs_cli.specs.MergeOptions.{judged_merge, IsMergeRequest, MergeRequest}
 use Rattle.gtfs_cli.specs.FilesInFolders.{HoldsPassing, HoldsTables}
 use Rattle.gtfs_cli.specs.ReadingCauses.{IsReadingCause}
-use Rattle.gtfs_cli.specs.Sending.{Begins}
+use Rattle.gtfs_cli.specs.SentText.{Begins}
 use Rattle.gtfs_cli.specs.RefusalOrder.{feed, followed_by, sending, values, Judged}
 use Rattle.gtfs_cli.specs.CommandPlan.{Plan}
 use Rattle.gtfs_cli.specs.declared.commands.refusal.Refusal.{Refusal}

@@ -1,12 +1,12 @@
 -- What the parts of a merge give: the values of its options, the merged feed and its names, and the texts of its files.
 use Rattle.std.specs.Prelude.{◌≡◌, ℕ, All, Option, Some}
 use Rattle.gtfs_devices.specs.Folder.{Store}
-use Rattle.gtfs_table.specs.Reading.{kept_files}
+use Rattle.gtfs_table.specs.TablesRead.{kept_files}
 use Rattle.gtfs_table.specs.Tables.{table_of, table_of_bytes}
 use Rattle.gtfs_table.specs.declared.file.File.{File}
 use Rattle.gtfs_rows.specs.Content.{Content}
-use Rattle.gtfs_rows.specs.Written.{written}
-use Rattle.gtfs_rows.specs.Views.{content_of_parts}
+use Rattle.gtfs_rows.specs.WrittenContent.{written}
+use Rattle.gtfs_rows.specs.RowsInMemory.{content_of_parts}
 use Rattle.gtfs_merge.specs.declared.merging.Merged.{Merged}
 use Rattle.gtfs_commands.specs.Words.{MergeTexts}
 use Rattle.gtfs_cli.specs.MergeOptions.{MergeRequest}

@@ -1,8 +1,8 @@
 -- The report of a merge, as the names tell it.
 use Rattle.std.specs.Prelude.{ℕ, ◌+◌, if◌then◌else◌, List, [], ◌++◌, length, flat_map, bytes_eq, codes, decimal, Option, Some, None}
-use Rattle.gtfs_merge.specs.Near.{near_line}
+use Rattle.gtfs_merge.specs.NearStops.{near_line}
 use Rattle.gtfs_merge.specs.Names.{AllNames, in_kind, new_id, of_side}
-use Rattle.gtfs_merge.specs.Report.{joined_line, kind_name, kinds, renamed_line, side_name}
+use Rattle.gtfs_merge.specs.MergeReport.{joined_line, kind_name, kinds, renamed_line, side_name}
 use Rattle.gtfs_merge.specs.declared.kind.Kind.{Kind}
 use Rattle.gtfs_merge.specs.declared.kind.Side.{Side}
 use Rattle.gtfs_merge.specs.declared.kind.Side.TheVariants as side

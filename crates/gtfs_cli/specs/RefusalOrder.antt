@@ -7,7 +7,7 @@ use Rattle.gtfs_cli.specs.Failures.{Failures}
 use Rattle.gtfs_cli.specs.FilesInFolders.{HoldsSomeZone, HoldsPassing, HoldsTables}
 use Rattle.gtfs_cli.specs.ReadingCauses.{IsZoneCause, IsReadingCause, IsTablesCause}
 use Rattle.gtfs_cli.specs.SharedOptions.{first_of_bad}
-use Rattle.gtfs_cli.specs.Sending.{IsSendingCause}
+use Rattle.gtfs_cli.specs.SentText.{IsSendingCause}
 use Rattle.gtfs_cli.specs.declared.commands.refusal.Refusal.{Refusal}
 use Rattle.gtfs_cli.specs.declared.commands.refusal.Refusal.TheVariants.{BadValue}
 

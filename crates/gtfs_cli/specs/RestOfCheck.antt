@@ -4,8 +4,8 @@ use Rattle.gtfs_schema.specs.Codes.{is_error}
 use Rattle.gtfs_schema.specs.Problems.{passes, Problem}
 use Rattle.gtfs_table.specs.Tables.{Dataset}
 use Rattle.gtfs_rows.specs.Content.{Content}
-use Rattle.gtfs_rows.specs.Reading.{content_of}
-use Rattle.gtfs_rows.specs.Views.{content_of_parts}
+use Rattle.gtfs_rows.specs.ContentRead.{content_of}
+use Rattle.gtfs_rows.specs.RowsInMemory.{content_of_parts}
 use Rattle.gtfs_advice.specs.Advice.{advice}
 use Rattle.gtfs_commands.specs.Words.{CheckTexts}
 use Rattle.gtfs_cli.specs.AdviceLines.{advice_lines, advised_text}

@@ -5,14 +5,14 @@ use Rattle.gtfs_days.specs.declared.zone.Zone.{Zone}
 use Rattle.gtfs_rows.specs.Content.{Content}
 use Rattle.gtfs_times.specs.declared.times.Times.{Times}
 use Rattle.gtfs_board.specs.Board.{is_stop}
-use Rattle.gtfs_board.specs.Page.{IsCutShort, IsPage, IsStopped}
+use Rattle.gtfs_board.specs.BoardPage.{IsCutShort, IsPage, IsStopped}
 use Rattle.gtfs_board.specs.Timetable.{is_route}
-use Rattle.gtfs_conversation.specs.Lines.{longest_line}
+use Rattle.gtfs_conversation.specs.HeardLines.{longest_line}
 use Rattle.gtfs_cli.specs.BoardCommand.{LiesBefore}
 use Rattle.gtfs_cli.specs.BoardsCommand.{IsBoardCause, IsRequestText}
 use Rattle.gtfs_cli.specs.ServeQuestions.{AsksFor, AsksForNothing, Board, Question, Timetable}
 use Rattle.gtfs_cli.specs.BoardsRequests.{StopRequest}
-use Rattle.gtfs_cli.specs.Sending.{or_none, Begins}
+use Rattle.gtfs_cli.specs.SentText.{or_none, Begins}
 use Rattle.gtfs_cli.specs.TimetableCommand.{AreFirstSheets, AreSheets, IsSheetsCause}
 use Rattle.gtfs_cli.specs.declared.commands.refusal.Refusal.{Refusal}
 use Rattle.gtfs_cli.specs.declared.commands.refusal.Refusal.TheVariants.{UnknownStop, UnknownRoute, UntilBeforeFrom, OutputFailed}

@@ -9,7 +9,7 @@ use Rattle.gtfs_devices.specs.Folder.{Store}
 use Rattle.gtfs_table.specs.Tables.{Dataset}
 use Rattle.gtfs_schema.specs.Problems.{Passes}
 use Rattle.gtfs_rows.specs.Content.{Content}
-use Rattle.gtfs_rows.specs.Reading.{content_of}
+use Rattle.gtfs_rows.specs.ContentRead.{content_of}
 use Rattle.gtfs_times.specs.declared.times.Times.{Times}
 use Rattle.gtfs_commands.specs.Words.{ServeTexts}
 use Rattle.gtfs_cli.specs.ServeAnswers.{AnswersLine, IsAnswerPart, AnswersWhole}
@@ -19,7 +19,7 @@ use Rattle.gtfs_cli.specs.SharedOptions.{times_of}
 use Rattle.gtfs_cli.specs.CommandPlan.{Plan}
 use Rattle.gtfs_cli.specs.Refusals.{TellsOutput}
 use Rattle.gtfs_cli.specs.DevicesSeen.{Output as Told, Talk}
-use Rattle.gtfs_cli.specs.Sending.{IsSendingCause, SendsSome}
+use Rattle.gtfs_cli.specs.SentText.{IsSendingCause, SendsSome}
 use Rattle.gtfs_cli.specs.declared.commands.refusal.Refusal.{Refusal}
 use Rattle.gtfs_cli.specs.declared.commands.refusal.Refusal.TheVariants.{InputFailed, OutputFailed}
 

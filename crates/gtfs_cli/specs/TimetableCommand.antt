@@ -5,12 +5,12 @@ use Rattle.gtfs_devices.specs.Folder.{Store}
 use Rattle.gtfs_table.specs.Tables.{Dataset}
 use Rattle.gtfs_schema.specs.Problems.{Passes}
 use Rattle.gtfs_rows.specs.Content.{Content}
-use Rattle.gtfs_rows.specs.Reading.{content_of}
+use Rattle.gtfs_rows.specs.ContentRead.{content_of}
 use Rattle.gtfs_times.specs.Filling.{timed}
 use Rattle.gtfs_board.specs.Timetable.{is_route, sheet_text, sheets}
 use Rattle.gtfs_commands.specs.Words.{TimetableTexts}
 use Rattle.gtfs_cli.specs.FilesInFolders.{HoldsTables}
-use Rattle.gtfs_cli.specs.Sending.{AreFirst, Begins}
+use Rattle.gtfs_cli.specs.SentText.{AreFirst, Begins}
 use Rattle.gtfs_cli.specs.TimetableOptions.{judged_timetable, IsTimetableRequest, TimetableRequest}
 use Rattle.gtfs_cli.specs.RefusalOrder.{feed, followed_by, sending, values, Judged}
 use Rattle.gtfs_cli.specs.CommandPlan.{passed, prints, Plan}

@@ -7,7 +7,7 @@ use Rattle.gtfs_commands.specs.declared.fault.WordsFault.{WordsFault}
 use Rattle.gtfs_commands.specs.declared.fault.WordsFault.TheVariants.{Help, OutOfMemory, Refused, Version}
 use Rattle.gtfs_cli.specs.CommandPlan.{passed, prints, Plan}
 use Rattle.gtfs_cli.specs.RefusalOrder.{followed_by, sending, Judged}
-use Rattle.gtfs_cli.specs.Sending.{Begins}
+use Rattle.gtfs_cli.specs.SentText.{Begins}
 use Rattle.gtfs_cli.specs.declared.commands.refusal.Refusal.{Refusal}
 use Rattle.gtfs_cli.specs.declared.commands.refusal.Refusal.TheVariants.{Words}
 

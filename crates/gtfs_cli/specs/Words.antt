@@ -10,7 +10,7 @@ pub use Rattle.gtfs_cli.specs.AskedCommand.{Asked}
 -- the words ask for it
 pub use Rattle.gtfs_cli.specs.AskedCommand.{Asks}
 -- what is given to `serve`
-pub use Rattle.gtfs_commands.specs.Asked.{ServeTexts}
+pub use Rattle.gtfs_commands.specs.AskedTexts.{ServeTexts}
 -- ---- `run`: what is done, and how it ends
 
 -- a conversation: what had gone out before it, and the input before and after it
@@ -34,22 +34,22 @@ pub use Rattle.gtfs_devices.specs.Folder.{Store}
 -- ---- `tell` and `close`: after the run
 
 -- the status of a fault that kept the program from running
-pub use Rattle.gtfs_cli.specs.Faults.{fault_status}
+pub use Rattle.gtfs_cli.specs.WordFaults.{fault_status}
 -- the line that the error output gets for it
-pub use Rattle.gtfs_cli.specs.Faults.{fault_line}
+pub use Rattle.gtfs_cli.specs.WordFaults.{fault_line}
 -- a text went out whole, or the output failed after a beginning of it
-pub use Rattle.gtfs_cli.specs.Sending.{Sends}
+pub use Rattle.gtfs_cli.specs.SentText.{Sends}
 -- a count of failures after one more
 pub use Rattle.gtfs_devices.specs.Device.{counted}
 -- ---- the laws of runs: which outcome a command has where nothing fails
 
 -- what the folders hold, what is printed, the line of the error output, and the status
-pub use Rattle.gtfs_cli.specs.Outcomes.{Outcome}
+pub use Rattle.gtfs_cli.specs.CommandOutcomes.{Outcome}
 -- the outcome of a plan
-pub use Rattle.gtfs_cli.specs.Outcomes.{IsOutcome}
+pub use Rattle.gtfs_cli.specs.CommandOutcomes.{IsOutcome}
 -- the folders and the output did not fail, and memory sufficed
-pub use Rattle.gtfs_cli.specs.Outcomes.{IsUnhindered}
+pub use Rattle.gtfs_cli.specs.CommandOutcomes.{IsUnhindered}
 -- all lines of an input were answered, one after another, and memory sufficed for each answer
 pub use Rattle.gtfs_cli.specs.ServeCommand.{IsWhollyServed}
 -- a run ended with an outcome that has a property
-pub use Rattle.gtfs_cli.specs.Outcomes.{EndsAsOne}
+pub use Rattle.gtfs_cli.specs.CommandOutcomes.{EndsAsOne}

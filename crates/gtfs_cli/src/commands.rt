@@ -9,7 +9,7 @@ ghost use Rattle.gtfs_cli.specs.Failures.{FailedNowhere};
 ghost use Rattle.gtfs_cli.specs.CommandPlan.{answer_of, Ends, IsRun, TellsEnd};
 ghost use Rattle.gtfs_cli.specs.Refusals.{status_in};
 ghost use Rattle.gtfs_cli.specs.DevicesSeen.{no_lines, Devices, Output, Talk};
-ghost use Rattle.gtfs_cli.specs.Sending.{or_none, Begins, PrintsText};
+ghost use Rattle.gtfs_cli.specs.SentText.{or_none, Begins, PrintsText};
 ghost use Rattle.gtfs_cli.specs.declared.commands.refusal.Refusal.TheVariants.{OutOfMemory};
 
 mod board;

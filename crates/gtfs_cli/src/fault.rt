@@ -1,6 +1,6 @@
 //! What the program itself has to say.
 ghost use Rattle.std.specs.Prelude.{◌≡◌};
-ghost use Rattle.gtfs_cli.specs.Faults.{fault_line, fault_status};
+ghost use Rattle.gtfs_cli.specs.WordFaults.{fault_line, fault_status};
 
 /// Why the program could not answer the words, or not send its answer on.
 #[derive(Clone, Copy, Debug)]

@@ -4,7 +4,7 @@ ghost use Rattle.clap.specs.Words.{Text, takes};
 ghost use Rattle.gtfs_devices.specs.Folder.{Store};
 ghost use Rattle.gtfs_commands.specs.Words.{gtfs_app, ServeTexts};
 ghost use Rattle.gtfs_cli.specs.AskedCommand.{plan_of, Asked, Asks, HearsNothing};
-ghost use Rattle.gtfs_cli.specs.Outcomes.{EndsAsOne, IsOutcome, IsUnhindered, Outcome};
+ghost use Rattle.gtfs_cli.specs.CommandOutcomes.{EndsAsOne, IsOutcome, IsUnhindered, Outcome};
 ghost use Rattle.gtfs_cli.specs.CommandPlan.{IsRun};
 ghost use Rattle.gtfs_cli.specs.DevicesSeen.{Devices, Output, Talk};
 ghost use Rattle.gtfs_cli.specs.ServeCommand.{IsWhollyServed};

@@ -4,8 +4,8 @@ ghost use Rattle.std.specs.Prelude.{◌≡◌, ◌≤◌, [], IfOk, IfErr, OnOk,
 ghost use Rattle.std.specs.Io.Buffered.{writer_buffer, writer_contents};
 ghost use Rattle.std.specs.Io.KnownBytes.{Keeps};
 ghost use Rattle.gtfs_devices.specs.Device.{counted};
-ghost use Rattle.gtfs_cli.specs.Faults.{fault_line, fault_status};
-ghost use Rattle.gtfs_cli.specs.Sending.{Sends};
+ghost use Rattle.gtfs_cli.specs.WordFaults.{fault_line, fault_status};
+ghost use Rattle.gtfs_cli.specs.SentText.{Sends};
 ghost use Rattle.gtfs_cli.specs.declared.fault.Fault.TheVariants.{OutputFailed};
 
 use crate::fault::Fault;

@@ -8,7 +8,7 @@ use Rattle.gtfs_field.specs.Canonical.{date_text}
 use Rattle.gtfs_board.specs.declared.departure.Mark.TheVariants as mark
 use Rattle.gtfs_rows.specs.Key.{Key}
 use Rattle.gtfs_board.specs.KeyTexts.{key_text}
-use Rattle.gtfs_board.specs.Lines.{clock_text, line_text}
+use Rattle.gtfs_board.specs.BoardLines.{clock_text, line_text}
 use Rattle.gtfs_board.proofs.TextVectors.{same_digits}
 
 -- ---- 1 April 2024 is day 19814

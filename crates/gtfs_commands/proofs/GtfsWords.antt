@@ -10,9 +10,9 @@ use Rattle.clap.specs.Walk.{answers_to, nothing_held, rows_after, walk}
 use Rattle.clap.specs.declared.error.kind.ErrorKind.{ErrorKind}
 use Rattle.clap.specs.declared.error.kind.ErrorKind.TheVariants as kind
 use Rattle.clap.specs.declared.parser.matches.ArgMatches.{ArgMatches}
-use Rattle.gtfs_commands.specs.Asked.{HasBoard, HasBoards, HasCheck, HasMerge, HasServe, HasTimetable, IsWhole}
+use Rattle.gtfs_commands.specs.AskedTexts.{HasBoard, HasBoards, HasCheck, HasMerge, HasServe, HasTimetable, IsWhole}
 use Rattle.gtfs_commands.specs.CommandLine.{board_app, boards_app, check_app, gtfs_app, merge_app, serve_app, timetable_app}
-use Rattle.gtfs_commands.specs.Untaken.{no_memory, IsFaultOf, IsToldOf}
+use Rattle.gtfs_commands.specs.HelpAndRefusals.{no_memory, IsFaultOf, IsToldOf}
 use Rattle.gtfs_commands.specs.declared.fault.WordsFault.{WordsFault}
 use Rattle.gtfs_commands.specs.declared.fault.WordsFault.TheVariants as fault
 use Rattle.gtfs_commands.proofs.AskedAlone.{alone, built_alone, is_asked, only_asked}

@@ -2,7 +2,7 @@
 use Rattle.std.proofs.Common.{◌≡◌, ◌∙◌, List, Option, Some, None, ap, sym}
 use Rattle.std.specs.Prelude.{unwrap_or}
 use Rattle.clap.specs.Words.{Row, Text}
-use Rattle.gtfs_commands.specs.Asked.{AsksBoardOf, AsksBoardsOf, AsksCheckOf, AsksMergeOf, AsksServeOf, AsksTimetableOf, BoardTexts, BoardsTexts, CheckTexts, ForBoard, ForBoards, ForCheck, ForMerge, ForServe, ForTimetable, MergeTexts, ServeTexts, TimetableTexts}
+use Rattle.gtfs_commands.specs.AskedTexts.{AsksBoardOf, AsksBoardsOf, AsksCheckOf, AsksMergeOf, AsksServeOf, AsksTimetableOf, BoardTexts, BoardsTexts, CheckTexts, ForBoard, ForBoards, ForCheck, ForMerge, ForServe, ForTimetable, MergeTexts, ServeTexts, TimetableTexts}
 
 same : (o : Option Text) (x y : Text) → o ≡ Some x → o ≡ Some y → x ≡ y
 same o x y is_x is_y = ap (λ p. unwrap_or p x) (sym is_x ∙ is_y)

@@ -1,4 +1,4 @@
+pub mod AskedTexts
 pub mod CommandLine
-pub mod Asked
-pub mod Untaken
+pub mod HelpAndRefusals
 pub mod Words

@@ -1,7 +1,7 @@
 //! Why words name no command.
 ghost use Rattle.std.specs.Prelude.{◌≡◌};
 ghost use Rattle.clap.specs.Words.{kind_of};
-ghost use Rattle.gtfs_commands.specs.Untaken.{no_memory, IsToldOf};
+ghost use Rattle.gtfs_commands.specs.HelpAndRefusals.{no_memory, IsToldOf};
 
 use clap::error::{Error, ErrorKind};
 pub(super) use std::alloc::AllocError as OutOfMemory;

@@ -1,7 +1,7 @@
 //! What words ask for is one thing.
 ghost use Rattle.std.specs.Prelude.{◌≡◌, List};
 ghost use Rattle.clap.specs.Words.{Text};
-ghost use Rattle.gtfs_commands.specs.Asked.{AsksBoardOf, AsksBoardsOf, AsksCheckOf, AsksMergeOf, AsksServeOf, AsksTimetableOf, BoardTexts, BoardsTexts, CheckTexts, MergeTexts, ServeTexts, TimetableTexts};
+ghost use Rattle.gtfs_commands.specs.AskedTexts.{AsksBoardOf, AsksBoardsOf, AsksCheckOf, AsksMergeOf, AsksServeOf, AsksTimetableOf, BoardTexts, BoardsTexts, CheckTexts, MergeTexts, ServeTexts, TimetableTexts};
 
 /// A law of words, which its contract states: of each command, words ask for one, with one text for
 /// each id at most. It does nothing when it runs.

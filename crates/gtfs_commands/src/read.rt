@@ -1,9 +1,9 @@
 //! From the words to the command.
 ghost use Rattle.std.specs.Prelude.{◌≡◌, map, Some, option_map, true, IfOk, IfErr, IfSome, IsSome};
 ghost use Rattle.clap.specs.Words.{first_of, found_of, rows_of, subcommand_of, subcommand_rows_of, takes};
-ghost use Rattle.gtfs_commands.specs.Asked.{boards_texts_of, check_texts_of, is_flagged, is_from_words, merge_texts_of, serve_texts_of, texts_of, timetable_texts_of, HasBoard, HasBoards, HasCheck, HasMerge, HasServe, HasTimetable, GivesBoard, GivesBoards, GivesCheck, IsCommandOf, GivesMerge, GivesServe, GivesTimetable, IsWhole};
+ghost use Rattle.gtfs_commands.specs.AskedTexts.{boards_texts_of, check_texts_of, is_flagged, is_from_words, merge_texts_of, serve_texts_of, texts_of, timetable_texts_of, HasBoard, HasBoards, HasCheck, HasMerge, HasServe, HasTimetable, GivesBoard, GivesBoards, GivesCheck, IsCommandOf, GivesMerge, GivesServe, GivesTimetable, IsWhole};
 ghost use Rattle.gtfs_commands.specs.CommandLine.{gtfs_app};
-ghost use Rattle.gtfs_commands.specs.Untaken.{no_memory, IsFaultOf};
+ghost use Rattle.gtfs_commands.specs.HelpAndRefusals.{no_memory, IsFaultOf};
 
 use crate::command::{
     BoardTexts, BoardsTexts, CheckTexts, Command, MergeTexts, ServeTexts, TimetableTexts,

@@ -9,8 +9,8 @@ use Rattle.std.proofs.lemmas.List.{length-take, take-take, take_all}
 use Rattle.std.proofs.lemmas.List.Elements.{All-push}
 use Rattle.std.proofs.lemmas.List.Splits.{length-slice_split, slice_split_at, slice_split_none}
 use Rattle.gtfs_conversation.specs.Conversation.{Hears}
-use Rattle.gtfs_conversation.specs.Lines.{heard_lines, longest_line}
-use Rattle.gtfs_conversation.specs.Reading.{GivesByte, HasNoFeed, ReadsRaw, heard_of}
+use Rattle.gtfs_conversation.specs.HeardLines.{heard_lines, longest_line}
+use Rattle.gtfs_conversation.specs.HeardInput.{GivesByte, HasNoFeed, ReadsRaw, heard_of}
 
 -- ---- a line that is heard, of the first of its bytes
 

@@ -1,4 +1,4 @@
 pub mod Conversation
-pub mod Lines
-pub mod Reading
-pub mod Script
+pub mod HeardInput
+pub mod HeardLines
+pub mod ScriptedTalk

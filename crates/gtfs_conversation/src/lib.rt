@@ -6,7 +6,7 @@
 //! memory ([`MemoryInput`]), or has no lines ([`NoInput`]).
 //!
 //! What went out, in which order and after which line, stands in `specs/Conversation.antt`, and what
-//! a line is in `specs/Lines.antt`.
+//! a line is in `specs/HeardLines.antt`.
 #![tactic(auto)]
 
 mod answer;

@@ -20,7 +20,7 @@ pub struct MemoryInput<'a> {
 
 impl<'a> Model for MemoryInput<'a> {
     ghost use Rattle.std.specs.Prelude.{map};
-    ghost use Rattle.gtfs_conversation.specs.Script.{Script};
+    ghost use Rattle.gtfs_conversation.specs.ScriptedTalk.{Script};
 
     ghost Value = { Script };
 
@@ -67,7 +67,7 @@ impl<'a> MemoryInput<'a> {
 
 impl Input<MemoryOut> for MemoryInput<'_> {
     ghost use Rattle.std.specs.Prelude.{Some, ◌≡◌, length};
-    ghost use Rattle.gtfs_conversation.specs.Script.{lines_left, last_heard};
+    ghost use Rattle.gtfs_conversation.specs.ScriptedTalk.{lines_left, last_heard};
 
     ghost waiting = { λ input. Some (lines_left input) };
 

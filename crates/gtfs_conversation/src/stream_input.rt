@@ -1,8 +1,8 @@
 ghost use Rattle.std.specs.Prelude.{◌≡◌, ◌≤◌, ◌<◌, ◌+◌, ◌^◌, ◌==◌, ◌||◌, ◌∷◌, ◌++◌, [], not, take, option_map, length, vec_len, vec_capacity, IfOk, IfSome};
 ghost use Rattle.std.specs.Str.Lines.{strip_carriage_return};
 ghost use Rattle.gtfs_conversation.specs.Conversation.{Hears};
-ghost use Rattle.gtfs_conversation.specs.Lines.{heard_lines};
-ghost use Rattle.gtfs_conversation.specs.Reading.{GivesByte, ReadsRaw, heard_of};
+ghost use Rattle.gtfs_conversation.specs.HeardLines.{heard_lines};
+ghost use Rattle.gtfs_conversation.specs.HeardInput.{GivesByte, ReadsRaw, heard_of};
 
 use crate::LONGEST_LINE;
 use crate::input::{Input, InputFailed};
@@ -26,7 +26,7 @@ pub struct StreamInput<R: Read> {
 
 impl<R: Read> Model for StreamInput<R> {
     ghost use Rattle.std.specs.Prelude.{ℕ, List, ◌≤◌, ◌+◌, vec_capacity};
-    ghost use Rattle.gtfs_conversation.specs.Lines.{longest_line};
+    ghost use Rattle.gtfs_conversation.specs.HeardLines.{longest_line};
 
     ghost Value = { R × List ℕ × ℕ };
 
@@ -56,7 +56,7 @@ impl<R: Read> StreamInput<R> {
 impl<R: Read, W: Write + Drop> Input<WriteOut<BufWriter<W>>> for StreamInput<R> {
     ghost use Rattle.std.specs.Prelude.{◌≡◌, [], None, option_map};
     ghost use Rattle.std.specs.Io.Buffered.{writer_buffer};
-    ghost use Rattle.gtfs_conversation.specs.Lines.{heard_lines};
+    ghost use Rattle.gtfs_conversation.specs.HeardLines.{heard_lines};
 
     ghost waiting = { λ input. option_map heard_lines (R.remaining input.0) };
 

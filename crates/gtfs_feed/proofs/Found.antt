@@ -16,7 +16,7 @@ use Rattle.std.proofs.lemmas.Map.Text.{is_eq-slice_cmp}
 use Rattle.gtfs_field.proofs.ListFacts.{position-map, position_any}
 use Rattle.gtfs_field.specs.TextOrder.{text_cmp}
 use Rattle.gtfs_schema.proofs.NamedFacts.{text_turned}
-use Rattle.gtfs_rows.specs.Order.{Ascends}
+use Rattle.gtfs_rows.specs.TransferOrder.{Ascends}
 
 module _ {X : Type 0} (id : X → List ℕ) (q : List ℕ) where
   -- whether a row has the id

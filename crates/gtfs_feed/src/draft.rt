@@ -1,7 +1,7 @@
 ghost use Rattle.std.specs.Prelude.{◌≡◌, IfOk};
 ghost use Rattle.gtfs_reading.specs.FirstNamed.{headsigns_in};
-ghost use Rattle.gtfs_rows.specs.Reading.{content_of};
-ghost use Rattle.gtfs_rows.specs.Views.{content_of_parts};
+ghost use Rattle.gtfs_rows.specs.ContentRead.{content_of};
+ghost use Rattle.gtfs_rows.specs.RowsInMemory.{content_of_parts};
 
 use crate::feed::Feed;
 use crate::reading::joined;
@@ -28,9 +28,9 @@ pub struct FeedDraft {
 }
 
 impl Model for FeedDraft {
-    ghost use Rattle.gtfs_feed.specs.Draft.{parts_with};
+    ghost use Rattle.gtfs_feed.specs.FeedDrafts.{parts_with};
     ghost use Rattle.gtfs_rows.specs.declared.parts.Parts.{Parts as PartsValue};
-    ghost use Rattle.gtfs_rows.specs.Views.{IsSoundParts};
+    ghost use Rattle.gtfs_rows.specs.RowsInMemory.{IsSoundParts};
 
     ghost Value = { PartsValue };
 

@@ -1,5 +1,5 @@
 ghost use Rattle.std.specs.Prelude.{◌≡◌, ◌<◌, [], IfOk, IsOk, Some, length, position, option_map, bytes_eq, slice_get, slice_index_or};
-ghost use Rattle.gtfs_rows.specs.Views.{IsSoundParts, agency_ids, stop_ids, route_ids, service_ids, trip_ids};
+ghost use Rattle.gtfs_rows.specs.RowsInMemory.{IsSoundParts, agency_ids, stop_ids, route_ids, service_ids, trip_ids};
 ghost use Rattle.gtfs_rows.specs.Trips.{stop_rows_by_trip, frequencies_by_trip};
 
 use crate::named::number_of;
@@ -21,7 +21,7 @@ pub struct Feed {
 
 impl Model for Feed {
     ghost use Rattle.gtfs_rows.specs.declared.parts.Parts.{Parts as PartsValue};
-    ghost use Rattle.gtfs_rows.specs.Views.{IsSoundParts};
+    ghost use Rattle.gtfs_rows.specs.RowsInMemory.{IsSoundParts};
 
     ghost Value = { PartsValue };
 

@@ -1,7 +1,7 @@
 ghost use Rattle.std.specs.Prelude.{◌≡◌, ℕ, List, bytes_eq, map, position};
 ghost use Rattle.std.specs.Ordering.{on};
 ghost use Rattle.gtfs_field.specs.TextOrder.{text_cmp};
-ghost use Rattle.gtfs_rows.specs.Order.{Ascends};
+ghost use Rattle.gtfs_rows.specs.TransferOrder.{Ascends};
 
 use gtfs_rows::{Agency, Route, ServiceRow, Stop, Trip};
 

@@ -1,9 +1,9 @@
 ghost use Rattle.std.specs.Prelude.{◌≡◌, IfOk, map};
-ghost use Rattle.gtfs_feed.specs.Draft.{parts_with};
+ghost use Rattle.gtfs_feed.specs.FeedDrafts.{parts_with};
 ghost use Rattle.gtfs_reading.specs.FeedRows.{AreRowsOf, rows_in};
-ghost use Rattle.gtfs_rows.specs.Reading.{content_of as content_of_dataset};
-ghost use Rattle.gtfs_rows.specs.Views.{content_of_parts, stop_row_of};
-ghost use Rattle.gtfs_table.specs.Parts.{parts};
+ghost use Rattle.gtfs_rows.specs.ContentRead.{content_of as content_of_dataset};
+ghost use Rattle.gtfs_rows.specs.RowsInMemory.{content_of_parts, stop_row_of};
+ghost use Rattle.gtfs_table.specs.FieldOffsets.{parts};
 ghost use Rattle.gtfs_table.specs.Tables.{Dataset};
 ghost use Rattle.gtfs_reading.specs.FirstNamed.{headsigns_in};
 

@@ -1,8 +1,8 @@
 ghost use Rattle.std.specs.Prelude.{◌≡◌, IfOk, OnOk, map, true};
 ghost use Rattle.gtfs_days.specs.Cut.{cut_day};
 ghost use Rattle.gtfs_days.specs.Service.{is_service_day};
-ghost use Rattle.gtfs_rows.specs.Views.{content_of_parts};
-ghost use Rattle.gtfs_rows.specs.Trimmed.{trimmed, trimmed_by_number, trimmed_parts};
+ghost use Rattle.gtfs_rows.specs.RowsInMemory.{content_of_parts};
+ghost use Rattle.gtfs_rows.specs.TrimmedContent.{trimmed, trimmed_by_number, trimmed_parts};
 
 use crate::copied::copied_rows;
 use crate::feed::Feed;

@@ -2,16 +2,16 @@
 use Rattle.std.proofs.Common.{◌≡◌, ◌∷◌, [], codes, refl, ℕ, List, Option, Some, None, true, false}
 use Rattle.std.specs.List.{list_any}
 use Rattle.std.specs.declared.cmp.Ordering.TheVariants.{Less}
-use Rattle.gtfs_table.specs.Parts as table
-use Rattle.gtfs_rows.specs.declared.choices.BikesAllowed.TheVariants as bikes
-use Rattle.gtfs_stop_times.specs.declared.choices.DropOffType.TheVariants as drop_off
-use Rattle.gtfs_rows.specs.declared.choices.ExactTimes.TheVariants as exact
-use Rattle.gtfs_rows.specs.declared.choices.LocationType.{LocationType}
-use Rattle.gtfs_rows.specs.declared.choices.LocationType.TheVariants as location
-use Rattle.gtfs_stop_times.specs.declared.choices.PickupType.{PickupType}
-use Rattle.gtfs_stop_times.specs.declared.choices.PickupType.TheVariants as pickup
-use Rattle.gtfs_rows.specs.declared.choices.WheelchairAccessible.TheVariants as wheelchair
-use Rattle.gtfs_rows.specs.declared.choices.WheelchairBoarding.TheVariants as boarding
+use Rattle.gtfs_table.specs.FieldOffsets as table
+use Rattle.gtfs_rows.specs.declared.row_choices.BikesAllowed.TheVariants as bikes
+use Rattle.gtfs_stop_times.specs.declared.stop_time_choices.DropOffType.TheVariants as drop_off
+use Rattle.gtfs_rows.specs.declared.row_choices.ExactTimes.TheVariants as exact
+use Rattle.gtfs_rows.specs.declared.row_choices.LocationType.{LocationType}
+use Rattle.gtfs_rows.specs.declared.row_choices.LocationType.TheVariants as location
+use Rattle.gtfs_stop_times.specs.declared.stop_time_choices.PickupType.{PickupType}
+use Rattle.gtfs_stop_times.specs.declared.stop_time_choices.PickupType.TheVariants as pickup
+use Rattle.gtfs_rows.specs.declared.row_choices.WheelchairAccessible.TheVariants as wheelchair
+use Rattle.gtfs_rows.specs.declared.row_choices.WheelchairBoarding.TheVariants as boarding
 use Rattle.gtfs_rows.specs.declared.frequency.Frequency.{Frequency}
 use Rattle.gtfs_stop_times.specs.declared.numbers.StopNo.{StopNo}
 use Rattle.gtfs_rows.specs.declared.parts.Parts.{Parts}

@@ -1,13 +1,13 @@
 -- What the definitions say of a few trips under their headings.
 use Rattle.std.proofs.Common.{◌≡◌, ◌∷◌, [], ℕ, List, Option, Some, None, true, false, map, refl, codes}
 use Rattle.std.specs.declared.cmp.Ordering.TheVariants.{Less}
-use Rattle.gtfs_table.specs.Parts as table
-use Rattle.gtfs_rows.specs.declared.choices.Direction.TheVariants as direction
-use Rattle.gtfs_rows.specs.declared.choices.Direction.{Direction}
-use Rattle.gtfs_rows.specs.declared.choices.WheelchairAccessible.TheVariants as wheelchair
-use Rattle.gtfs_rows.specs.declared.choices.BikesAllowed.TheVariants as bikes
-use Rattle.gtfs_stop_times.specs.declared.choices.PickupType.TheVariants as pickup
-use Rattle.gtfs_stop_times.specs.declared.choices.DropOffType.TheVariants as drop_off
+use Rattle.gtfs_table.specs.FieldOffsets as table
+use Rattle.gtfs_rows.specs.declared.row_choices.Direction.TheVariants as direction
+use Rattle.gtfs_rows.specs.declared.row_choices.Direction.{Direction}
+use Rattle.gtfs_rows.specs.declared.row_choices.WheelchairAccessible.TheVariants as wheelchair
+use Rattle.gtfs_rows.specs.declared.row_choices.BikesAllowed.TheVariants as bikes
+use Rattle.gtfs_stop_times.specs.declared.stop_time_choices.PickupType.TheVariants as pickup
+use Rattle.gtfs_stop_times.specs.declared.stop_time_choices.DropOffType.TheVariants as drop_off
 use Rattle.gtfs_rows.specs.declared.parts.Parts.{Parts}
 use Rattle.gtfs_stop_times.specs.declared.stop_row.StopRow.{StopRow}
 use Rattle.gtfs_rows.specs.declared.trip.Trip.{Trip}

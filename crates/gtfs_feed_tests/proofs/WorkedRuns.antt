@@ -5,7 +5,7 @@ use Rattle.gtfs_rows.specs.Rows.{StopRow}
 use Rattle.gtfs_runs.specs.declared.event.Event.{Event}
 use Rattle.gtfs_runs.specs.Events.{is_event}
 use Rattle.gtfs_runs.specs.Lanes.{period_count}
-use Rattle.gtfs_runs.specs.Order.{is_above_moment, is_later}
+use Rattle.gtfs_runs.specs.EventOrder.{is_above_moment, is_later}
 use Rattle.gtfs_rows.specs.Places.{is_in_place}
 use Rattle.gtfs_rows.specs.Runs.{is_run, is_departure_row, passes_at}
 use Rattle.gtfs_feed_tests.proofs.Samples.{stop_row, trip, period, plain_rows, half_hours, feed, stops}

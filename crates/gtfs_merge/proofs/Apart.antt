@@ -4,13 +4,13 @@ use Rattle.std.specs.Prelude.{◌&&◌, ◌==◌, if◌then◌else◌}
 use Rattle.std.proofs.lemmas.Bool.{and_parts, or_cases, cases_Bool}
 use Rattle.gtfs_rows.specs.Rows.{Agency, Stop}
 use Rattle.gtfs_rows.specs.Content.{Content}
-use Rattle.gtfs_rows.specs.Sound.{IsSound, is_sound_agency}
+use Rattle.gtfs_rows.specs.SoundContent.{IsSound, is_sound_agency}
 use Rattle.gtfs_table.specs.Rows.{is_empty}
 use Rattle.gtfs_rows.proofs.Members.{In, list_all-In}
 use Rattle.gtfs_merge.specs.Renaming.{Nearness, never_near, lists_id, ids, free_id, renamed_b, agency_a, agency_b, joined_agency, joined_route, joined_service, joined_trip, stop_b, names_a, names_b, joined_stop_under, stop_within}
-use Rattle.gtfs_merge.specs.Departures.{StaysApart}
+use Rattle.gtfs_merge.specs.DeparturesOfBoth.{StaysApart}
 use Rattle.gtfs_merge.specs.Names.{may_meet}
-use Rattle.gtfs_merge.specs.Near.{nearness}
+use Rattle.gtfs_merge.specs.NearStops.{nearness}
 use Rattle.gtfs_merge.specs.declared.kind.Kind.{Kind}
 use Rattle.gtfs_merge.specs.declared.kind.Kind.TheVariants as kind
 use Rattle.gtfs_merge.specs.declared.kind.Side.TheVariants as side

@@ -9,12 +9,12 @@ use Rattle.gtfs_rows.specs.Content.{Content}
 use Rattle.gtfs_rows.specs.Key.{Key}
 use Rattle.gtfs_days.specs.Service.{is_active}
 use Rattle.gtfs_rows.specs.Runs.{is_run, is_departure_row, passes_at, first_leaves, trip_start, starts_run, is_timed, allows_boarding}
-use Rattle.gtfs_rows.specs.Sound.{leaves}
+use Rattle.gtfs_rows.specs.SoundContent.{leaves}
 use Rattle.gtfs_rows.specs.Departures.{Origins, departs_from, runs_on}
 use Rattle.gtfs_rows.proofs.Members.{In}
 use Rattle.gtfs_merge.specs.Renaming.{Names, Renaming, lists_id, ids, trip_with, stop_row_with}
 use Rattle.gtfs_merge.specs.Merged.{service_with}
-use Rattle.gtfs_merge.specs.Departures.{key_with}
+use Rattle.gtfs_merge.specs.DeparturesOfBoth.{key_with}
 use Rattle.gtfs_merge.specs.declared.kind.Kind.TheVariants as kind
 use Rattle.gtfs_merge.proofs.Lookups.{list_any-In, In-list_any, list_any-alike, holds_at, holds_at-map, holds_at-Some, look, IsKeyed}
 use Rattle.gtfs_merge.proofs.MergedRows.{found, found_id, has_found}

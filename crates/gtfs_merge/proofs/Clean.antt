@@ -8,7 +8,7 @@ use Rattle.std.proofs.lemmas.Fmt.{decimal_by_steps_wide}
 use Rattle.gtfs_table.specs.Blanks.{cut, without_first_blanks, is_blank, is_control}
 use Rattle.gtfs_table.specs.Rows.{is_empty}
 use Rattle.gtfs_table.proofs.BlankFacts.{first-blank as first-goes, first-other as first-stays}
-use Rattle.gtfs_schema.specs.Values.{has_control}
+use Rattle.gtfs_schema.specs.FieldValues.{has_control}
 use Rattle.gtfs_schema.proofs.SiteFacts.{text_is as same_bytes}
 use Rattle.gtfs_rows.specs.Cells.{is_clean, is_filled}
 use Rattle.gtfs_merge.specs.Renaming.{merged_id}

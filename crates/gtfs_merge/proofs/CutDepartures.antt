@@ -14,7 +14,7 @@ use Rattle.gtfs_rows.specs.Key.{Key}
 use Rattle.gtfs_rows.specs.Places.{is_in_place}
 use Rattle.gtfs_rows.specs.Rows.{StopRow, Trip}
 use Rattle.gtfs_rows.specs.Runs.{is_departure_row, is_run, passes_at}
-use Rattle.gtfs_rows.specs.Trimmed.{first_part, second_part, trimmed, trimmed_row}
+use Rattle.gtfs_rows.specs.TrimmedContent.{first_part, second_part, trimmed, trimmed_row}
 use Rattle.gtfs_times.specs.Filling.{timed}
 use Rattle.gtfs_merge.specs.Cutoff.{DepartsInPart, DepartsOn, is_first_day, is_second_day}
 

@@ -3,13 +3,13 @@ use Rattle.std.proofs.Common.{◌≡◌, ◌∙◌, ℕ, Bool, false, Option, So
 use Rattle.std.specs.Prelude.{IfErr, IfOk, Result, Ok, Err}
 use Rattle.gtfs_days.specs.declared.cut.Cut.TheVariants.{Before, From}
 use Rattle.gtfs_rows.specs.Content.{Content}
-use Rattle.gtfs_rows.specs.Trimmed.{first_part, second_part, trimmed}
-use Rattle.gtfs_rows.specs.Views.{content_of_parts}
+use Rattle.gtfs_rows.specs.TrimmedContent.{first_part, second_part, trimmed}
+use Rattle.gtfs_rows.specs.RowsInMemory.{content_of_parts}
 use Rattle.gtfs_rows.specs.declared.parts.Parts.{Parts}
 use Rattle.gtfs_merge.specs.Merged.{is_too_large, merged, zone_texts_differ}
 use Rattle.gtfs_merge.specs.Merging.{AreNamesOf, AreRowsOfMerge, IsFeedOf, IsLimitFault, IsMergeOf, IsRefusal}
 use Rattle.gtfs_merge.specs.Names.{AllNames}
-use Rattle.gtfs_merge.specs.Near.{nearness}
+use Rattle.gtfs_merge.specs.NearStops.{nearness}
 use Rattle.gtfs_merge.specs.declared.merging.Merged.{Merged}
 use Rattle.gtfs_merge.specs.declared.merging.fault.MergeFault.{MergeFault}
 use Rattle.gtfs_merge.specs.declared.merging.fault.MergeFault.TheVariants as fault

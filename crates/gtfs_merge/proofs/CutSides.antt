@@ -7,12 +7,12 @@ use Rattle.gtfs_days.specs.Service.{is_service_day}
 use Rattle.gtfs_days.specs.declared.cut.Cut.{Cut}
 use Rattle.gtfs_days.specs.declared.cut.Cut.TheVariants.{Before, From}
 use Rattle.gtfs_rows.specs.Content.{Content}
-use Rattle.gtfs_rows.specs.Sound.{IsSound}
-use Rattle.gtfs_rows.specs.Trimmed.{first_part, second_part, trimmed, trimmed_row}
+use Rattle.gtfs_rows.specs.SoundContent.{IsSound}
+use Rattle.gtfs_rows.specs.TrimmedContent.{first_part, second_part, trimmed, trimmed_row}
 use Rattle.gtfs_rows.proofs.TrimmedSound.{trimmed-sound}
-use Rattle.gtfs_merge.specs.Law.{AreFew}
+use Rattle.gtfs_merge.specs.MergedDepartures.{AreFew}
 use Rattle.gtfs_merge.specs.Merging.{KeepsDepartures}
-use Rattle.gtfs_merge.specs.Near.{nearness}
+use Rattle.gtfs_merge.specs.NearStops.{nearness}
 use Rattle.gtfs_merge.specs.Renaming.{ids}
 use Rattle.gtfs_merge.specs.declared.kind.Kind.{Kind}
 use Rattle.gtfs_merge.specs.declared.kind.Kind.TheVariants as kind

@@ -9,7 +9,7 @@ use Rattle.gtfs_days.specs.declared.exception.Exception.{Exception}
 use Rattle.gtfs_days.specs.declared.exception.Exception.TheVariants.{Added, Removed}
 use Rattle.gtfs_schema.proofs.SiteFacts.{text_is as same_bytes}
 use Rattle.gtfs_rows.specs.Rows.{Stop, Trip}
-use Rattle.gtfs_merge.specs.Same.{same_flag, same_stop, same_week, same_exception, same_service, same_stop_row, same_frequency, same_trip}
+use Rattle.gtfs_merge.specs.SameRows.{same_flag, same_stop, same_week, same_exception, same_service, same_stop_row, same_frequency, same_trip}
 
 -- a test that only equal values pass
 abbrev pub IsExact : {X : Type 0} → (X → X → Bool) → Type 0

@@ -1,7 +1,7 @@
 -- Feeds in memory have few enough ids for new names.
 use Rattle.std.proofs.Common.{◌<◌, ◌+◌, ◌^◌, length, arith}
 use Rattle.gtfs_rows.specs.Content.{Content}
-use Rattle.gtfs_merge.specs.Law.{AreFew}
+use Rattle.gtfs_merge.specs.MergedDepartures.{AreFew}
 use Rattle.gtfs_merge.specs.Renaming.{ids}
 use Rattle.gtfs_merge.specs.declared.kind.Kind.{Kind}
 

@@ -7,12 +7,12 @@ use Rattle.std.proofs.lemmas.List.Concat.{flat_map-cons}
 use Rattle.gtfs_table.specs.declared.file.File.TheVariants as file
 use Prim.Native.String.{String as Literal}
 use Rattle.gtfs_schema.specs.Columns.{columns_of, id, optional}
-use Rattle.gtfs_schema.specs.Values.{word}
+use Rattle.gtfs_schema.specs.FieldValues.{word}
 use Rattle.gtfs_rows.specs.Cells.{are_cells, is_cell}
 use Rattle.gtfs_rows.specs.Content.{Content}
 use Rattle.gtfs_rows.specs.RowCells.{agency_cells, stop_cells, route_cells, trip_cells, stop_time_cells, week_cells, exception_cells, frequency_cells, transfer_cells, week_list, stop_times_of, weeks_of, exceptions_of, frequencies_of}
 use Rattle.gtfs_rows.specs.Rows.{Agency, Stop, Route, ServiceRow, Trip, Transfer}
-use Rattle.gtfs_rows.specs.Sound.{IsSound, has_id as has_row, if_given, is_stop_of, is_sound_route, is_sound_trip, is_sound_transfer}
+use Rattle.gtfs_rows.specs.SoundContent.{IsSound, has_id as has_row, if_given, is_stop_of, is_sound_route, is_sound_trip, is_sound_transfer}
 use Rattle.gtfs_rows.proofs.Members.{In, In-append, In-left, In-map, In-right, cells-at, held-In, list_all-In, list_all-from}
 use Rattle.gtfs_merge.specs.Merged.{agency_with, service_with, transfer_with}
 use Rattle.gtfs_merge.specs.Renaming.{Names, lists_id, ids, renaming, stop_with, route_with, stop_row_with, trip_with}

@@ -7,7 +7,7 @@ use Rattle.std.proofs.lemmas.List.Folds.{list_all-map}
 use Rattle.gtfs_rows.specs.Cells.{is_clean, is_filled}
 use Rattle.gtfs_rows.specs.Content.{Content}
 use Rattle.gtfs_rows.specs.Rows.{Stop, Route, StopRow, Trip, Transfer}
-use Rattle.gtfs_rows.specs.Sound.{has_id as has_row, if_given, is_stop_of, has_right_parent, is_sound_stop, is_sound_route, is_sound_stop_row, keeps_time, is_end, is_sound_in, leaves, is_sound_period, is_sound_trip, has_ends, is_sound_transfer}
+use Rattle.gtfs_rows.specs.SoundContent.{has_id as has_row, if_given, is_stop_of, has_right_parent, is_sound_stop, is_sound_route, is_sound_stop_row, keeps_time, is_end, is_sound_in, leaves, is_sound_period, is_sound_trip, has_ends, is_sound_transfer}
 use Rattle.gtfs_rows.proofs.Members.{list_all-In, list_all-from}
 use Rattle.gtfs_merge.specs.declared.kind.Kind.{Kind}
 use Rattle.gtfs_merge.specs.declared.kind.Kind.TheVariants as kind

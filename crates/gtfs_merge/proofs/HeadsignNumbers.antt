@@ -7,7 +7,7 @@ use Rattle.std.proofs.lemmas.List.{map-append}
 use Rattle.gtfs_rows.specs.Headsigns.{AreDistinct, KeepsHeadsigns}
 use Rattle.gtfs_rows.proofs.HeadsignFacts.{kept-append as kept-longer}
 use Rattle.gtfs_merge.specs.Headsigns.{AreHeadsigns, AreNumbersOf, numbers_on}
-use Rattle.gtfs_merge.specs.Sides.{side_parts}
+use Rattle.gtfs_merge.specs.MergedSides.{side_parts}
 use Rattle.gtfs_merge.specs.declared.kind.Side.{Side}
 use Rattle.gtfs_merge.specs.declared.kind.Side.TheVariants as side
 use Rattle.gtfs_merge.specs.declared.sides.Sides.{Sides}

@@ -6,7 +6,7 @@ use Rattle.std.proofs.lemmas.Bool.{and_parts, and_from, cases_Bool, not-true, or
 use Rattle.gtfs_schema.proofs.SiteFacts.{text_is as same_bytes}
 use Rattle.gtfs_schema.proofs.BoolFacts.{same_test as same_tests}
 use Rattle.gtfs_rows.specs.Content.{Content}
-use Rattle.gtfs_rows.specs.Sound.{IsSound}
+use Rattle.gtfs_rows.specs.SoundContent.{IsSound}
 use Rattle.gtfs_merge.specs.JoinedNumbers.{number_if}
 use Rattle.gtfs_merge.specs.Renaming.{ids, lists_id, free_id, renamed_b, agency_a, agency_b, joined_agency}
 use Rattle.gtfs_merge.specs.declared.kind.Kind.TheVariants as kind

@@ -9,11 +9,11 @@ use Rattle.gtfs_field.proofs.ListFacts.{position_any as before-any}
 use Rattle.gtfs_field.proofs.OptionFacts.{is_some-cond}
 use Rattle.gtfs_schema.proofs.SiteFacts.{text_is as same_bytes}
 use Rattle.gtfs_rows.specs.Content.{Content}
-use Rattle.gtfs_rows.specs.Views.{IsSoundParts, content_of_parts}
+use Rattle.gtfs_rows.specs.RowsInMemory.{IsSoundParts, content_of_parts}
 use Rattle.gtfs_merge.specs.FeedIds.{known_ids}
 use Rattle.gtfs_merge.specs.JoinedNumbers.{number_if}
 use Rattle.gtfs_merge.specs.Renaming.{Nearness, Renaming, lists_id, ids, is_joined, joined_by, joined_stop_under}
-use Rattle.gtfs_merge.specs.Sides.{nearness_of}
+use Rattle.gtfs_merge.specs.MergedSides.{nearness_of}
 use Rattle.gtfs_merge.specs.Twins.{of_kind, twin_number, twin_numbers, twin_rows}
 use Rattle.gtfs_merge.specs.declared.kind.Kind.{Kind}
 use Rattle.gtfs_merge.specs.declared.kind.Kind.TheVariants as kind

@@ -6,17 +6,17 @@ use Rattle.std.proofs.lemmas.List.{get_or-map}
 use Rattle.std.proofs.lemmas.Option.{get_or_from_slice_get, slice_get_within}
 use Rattle.std.proofs.lemmas.Simd.{map-map}
 use Rattle.gtfs_field.proofs.ListFacts.{mapped_at as row-map}
-use Rattle.gtfs_table.specs.Parts.{parts}
+use Rattle.gtfs_table.specs.FieldOffsets.{parts}
 use Rattle.gtfs_table.proofs.PartFacts.{length-parts}
 use Rattle.gtfs_days.specs.Service.{ServiceDates}
 use Rattle.gtfs_rows.specs.declared.agency.Agency.{Agency}
 use Rattle.gtfs_rows.specs.declared.parts.Parts.{Parts}
-use Rattle.gtfs_rows.specs.Views.{IsSoundParts, content_of_parts, agency_of, route_of, service_of, stop_of, agency_ids, service_ids}
+use Rattle.gtfs_rows.specs.RowsInMemory.{IsSoundParts, content_of_parts, agency_of, route_of, service_of, stop_of, agency_ids, service_ids}
 use Rattle.gtfs_rows.proofs.SoundOrder.{trip_ids-kept}
 use Rattle.gtfs_merge.specs.FeedIds.{known_ids}
 use Rattle.gtfs_merge.specs.JoinedNumbers.{joined_number}
 use Rattle.gtfs_merge.specs.Renaming.{ids}
-use Rattle.gtfs_merge.specs.Same.{same_agency, same_service}
+use Rattle.gtfs_merge.specs.SameRows.{same_agency, same_service}
 use Rattle.gtfs_merge.specs.declared.kind.Kind.{Kind}
 use Rattle.gtfs_merge.specs.declared.kind.Kind.TheVariants as kind
 use Rattle.gtfs_merge.specs.declared.sides.Sides.{Sides}

@@ -10,15 +10,15 @@ use Rattle.gtfs_field.proofs.ListFacts.{mapped_at as row-map}
 use Rattle.gtfs_schema.proofs.SiteFacts.{text_itself}
 use Rattle.gtfs_field.specs.TextOrder.{text_cmp}
 use Rattle.gtfs_rows.specs.Content.{Content}
-use Rattle.gtfs_rows.specs.Order.{Ascends}
+use Rattle.gtfs_rows.specs.TransferOrder.{Ascends}
 use Rattle.gtfs_rows.specs.declared.route.Route.{Route}
-use Rattle.gtfs_rows.specs.Views.{IsSoundParts, content_of_parts, route_of, agency_ids, route_ids}
+use Rattle.gtfs_rows.specs.RowsInMemory.{IsSoundParts, content_of_parts, route_of, agency_ids, route_ids}
 use Rattle.gtfs_rows.proofs.NumberFacts.{route_agency}
 use Rattle.gtfs_rows.proofs.SoundOrder.{in_order}
 use Rattle.gtfs_merge.specs.FeedIds.{known_ids}
 use Rattle.gtfs_merge.specs.JoinedNumbers.{joined_number, joined_numbers, number_if}
 use Rattle.gtfs_merge.specs.Renaming.{Renaming, lists_id, ids, kept_as_is, renamed_b, agency_a, agency_b, joined_agency, route_with}
-use Rattle.gtfs_merge.specs.Same.{same_route}
+use Rattle.gtfs_merge.specs.SameRows.{same_route}
 use Rattle.gtfs_merge.specs.SameByNumber.{same_agency_in, same_route_in}
 use Rattle.gtfs_merge.specs.Twins.{twin_number, twin_numbers}
 use Rattle.gtfs_merge.specs.declared.kind.Kind.{Kind}

@@ -2,10 +2,10 @@
 use Rattle.std.proofs.Common.{◌≡◌, ◌<◌, ℕ, Bool, List, Some, None, Option, sym, ap, ◌∙◌, length, map, get_or, bytes_eq, nat_eq, option_map, arith}
 use Rattle.std.specs.Option.{option_eq}
 use Rattle.std.proofs.lemmas.List.{length-map}
-use Rattle.gtfs_rows.specs.Views.{IsSoundParts, stop_ids, text_of_number}
+use Rattle.gtfs_rows.specs.RowsInMemory.{IsSoundParts, stop_ids, text_of_number}
 use Rattle.gtfs_rows.proofs.SoundOrder.{in_order}
 use Rattle.gtfs_merge.specs.Renaming.{stop_b}
-use Rattle.gtfs_merge.specs.Sides.{content_a, content_b, nearness_of}
+use Rattle.gtfs_merge.specs.MergedSides.{content_a, content_b, nearness_of}
 use Rattle.gtfs_merge.specs.Twins.{twin_numbers}
 use Rattle.gtfs_merge.specs.declared.kind.Kind.TheVariants as kind
 use Rattle.gtfs_merge.specs.declared.sides.Sides.{Sides}

@@ -14,22 +14,22 @@ use Rattle.gtfs_schema.proofs.SiteFacts.{text_is as same_bytes}
 use Rattle.gtfs_schema.proofs.NamedFacts.{text_turned as bytes_flip}
 use Rattle.gtfs_schema.proofs.BoolFacts.{same_test as same_tests}
 use Rattle.gtfs_rows.specs.Content.{Content}
-use Rattle.gtfs_rows.specs.Order.{Ascends}
+use Rattle.gtfs_rows.specs.TransferOrder.{Ascends}
 use Rattle.gtfs_rows.specs.Rows.{Stop}
-use Rattle.gtfs_rows.specs.Views.{IsSoundParts, content_of_parts, stop_of, stop_ids, text_of_number}
+use Rattle.gtfs_rows.specs.RowsInMemory.{IsSoundParts, content_of_parts, stop_of, stop_ids, text_of_number}
 use Rattle.gtfs_stop_times.specs.declared.numbers.StopNo.{StopNo}
 use Rattle.gtfs_rows.specs.declared.parts.Parts.{Parts}
 use Rattle.gtfs_rows.specs.declared.stop.Stop.{Stop as StopByNumber}
 use Rattle.gtfs_rows.proofs.SoundOrder.{in_order}
 use Rattle.gtfs_rows.proofs.NumberFacts.{own_number, stop_parent}
 use Rattle.gtfs_merge.specs.JoinedNumbers.{number_if}
-use Rattle.gtfs_nearby.specs.Near.{is_same_parent}
+use Rattle.gtfs_nearby.specs.NearRows.{is_same_parent}
 use Rattle.gtfs_merge.specs.Twins.{became, parent_became}
 use Rattle.gtfs_merge.specs.SameByNumber.{same_parent_in, same_stop_in}
-use Rattle.gtfs_merge.specs.Same.{same_stop, same_text}
-use Rattle.gtfs_merge.specs.Law.{AreFew}
+use Rattle.gtfs_merge.specs.SameRows.{same_stop, same_text}
+use Rattle.gtfs_merge.specs.MergedDepartures.{AreFew}
 use Rattle.gtfs_merge.specs.Renaming.{Nearness, Renaming, ids, lists_id, renamed_b, never_near, near_stop_under, joined_stop_under, stop_under, stop_with, stop_within}
-use Rattle.gtfs_merge.specs.Sides.{nearness_of}
+use Rattle.gtfs_merge.specs.MergedSides.{nearness_of}
 use Rattle.gtfs_merge.specs.declared.kind.Kind.TheVariants as kind
 use Rattle.gtfs_merge.specs.declared.sides.Sides.{Sides}
 use Rattle.gtfs_merge.proofs.Fresh.{joined_stays, renamed_into_a}

@@ -13,16 +13,16 @@ use Rattle.gtfs_rows.specs.declared.frequency.Frequency.{Frequency}
 use Rattle.gtfs_rows.specs.declared.parts.Parts.{Parts}
 use Rattle.gtfs_stop_times.specs.declared.stop_row.StopRow.{StopRow}
 use Rattle.gtfs_rows.specs.declared.trip.Trip.{Trip as TripRow}
-use Rattle.gtfs_rows.specs.Views.{IsSoundParts, content_of_parts, text_of_number, route_ids, service_ids, trip_ids, trip_of}
+use Rattle.gtfs_rows.specs.RowsInMemory.{IsSoundParts, content_of_parts, text_of_number, route_ids, service_ids, trip_ids, trip_of}
 use Rattle.gtfs_rows.specs.Trips.{stop_rows_by_trip, frequencies_by_trip}
 use Rattle.gtfs_rows.proofs.SoundOrder.{in_order}
 use Rattle.gtfs_rows.proofs.TripsAt.{content_trip}
 use Rattle.gtfs_rows.proofs.Members.{In}
 use Rattle.gtfs_merge.specs.JoinedNumbers.{joined_number, joined_numbers}
 use Rattle.gtfs_merge.specs.Renaming.{Renaming, ids, kept_as_is, joined_route, joined_service, route_b, service_b, stop_b, trip_with}
-use Rattle.gtfs_merge.specs.Same.{same_trip}
+use Rattle.gtfs_merge.specs.SameRows.{same_trip}
 use Rattle.gtfs_merge.specs.SameByNumber.{same_route_id_in, same_service_id_in, same_trip_in}
-use Rattle.gtfs_merge.specs.Sides.{nearness_of}
+use Rattle.gtfs_merge.specs.MergedSides.{nearness_of}
 use Rattle.gtfs_merge.specs.declared.kind.Kind.TheVariants as kind
 use Rattle.gtfs_merge.specs.declared.sides.Sides.{Sides}
 use Rattle.gtfs_merge.proofs.JoinedKinds.{id-at, ids-known}

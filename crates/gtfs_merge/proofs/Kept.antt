@@ -8,7 +8,7 @@ use Rattle.std.specs.FinMap as table
 use Rattle.std.proofs.lemmas.Bool.{and_parts}
 use Rattle.std.proofs.lemmas.List.Kept.{AllPairs-cons}
 use Rattle.std.proofs.lemmas.List.Sums.{sum_by-cons}
-use Rattle.gtfs_rows.specs.Order.{Ascends, by_key}
+use Rattle.gtfs_rows.specs.TransferOrder.{Ascends, by_key}
 use Rattle.gtfs_rows.proofs.Members.{In, In-map, all-from, list_all-from}
 
 module _ {K X : Type 0} (R : K → K → Ordering) (o : IsTotalOrder R) (key : X → K) where

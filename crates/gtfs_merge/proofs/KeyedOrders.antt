@@ -5,7 +5,7 @@ use Rattle.std.specs.FinMap as table
 use Rattle.std.specs.FinMap.Entries.{by_order, put}
 use Rattle.std.specs.declared.cmp.Ordering.{Ordering}
 use Rattle.std.specs.declared.cmp.Ordering.TheVariants.{Less, Equal, Greater}
-use Rattle.gtfs_rows.specs.Order.{by_key}
+use Rattle.gtfs_rows.specs.TransferOrder.{by_key}
 use Rattle.gtfs_rows.proofs.Members.{In}
 use Rattle.gtfs_merge.proofs.KeyedMaps.{entries-none}
 

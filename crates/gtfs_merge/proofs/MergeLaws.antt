@@ -6,11 +6,11 @@ use Rattle.gtfs_rows.specs.Content.{Content}
 use Rattle.gtfs_times.specs.Filling.{timed}
 use Rattle.gtfs_times.specs.declared.times.Times.{Times}
 use Rattle.gtfs_rows.specs.Departures.{any_row}
-use Rattle.gtfs_rows.specs.Sound.{IsSound}
-use Rattle.gtfs_merge.specs.Same.{same_trip}
+use Rattle.gtfs_rows.specs.SoundContent.{IsSound}
+use Rattle.gtfs_merge.specs.SameRows.{same_trip}
 use Rattle.gtfs_merge.specs.Renaming.{Nearness, kept_as_is, names_a, trip_with, route_b, service_b, stop_b}
-use Rattle.gtfs_merge.specs.Departures.{IsImage, HasUnion, SharesJoined, HasBoards}
-use Rattle.gtfs_merge.specs.Law.{SharesExactly}
+use Rattle.gtfs_merge.specs.DeparturesOfBoth.{IsImage, HasUnion, SharesJoined, HasBoards}
+use Rattle.gtfs_merge.specs.MergedDepartures.{SharesExactly}
 use Rattle.gtfs_merge.proofs.MergedRows.{joined-rows, has_found}
 use Rattle.gtfs_merge.proofs.Carried.{trip_id_of}
 use Rattle.gtfs_merge.proofs.Union.{AreFew, has-union, shares-joined, departs-a}

@@ -7,27 +7,27 @@ use Rattle.std.proofs.lemmas.List.{length-map}
 use Rattle.gtfs_field.proofs.ListFacts.{first_is as first-is, map_alike as read-alike, rest_is as rest-is}
 use Rattle.gtfs_rows.specs.NamedRows.{route_named, stop_named, trip_named, without_rows}
 use Rattle.gtfs_rows.specs.TransferEnds.{transfer_named}
-use Rattle.gtfs_rows.specs.Order.{Ascends}
+use Rattle.gtfs_rows.specs.TransferOrder.{Ascends}
 use Rattle.gtfs_rows.specs.Rows.{Trip}
-use Rattle.gtfs_rows.specs.Sound.{IsSound}
-use Rattle.gtfs_rows.specs.Views.{IsCut, IsSoundParts, agency_ids, agency_of, content_of_parts, frequency_of, is_number_within, route_ids, service_ids, service_of, stop_ids, stop_row_of, trip_ids, trip_of, trips_of}
+use Rattle.gtfs_rows.specs.SoundContent.{IsSound}
+use Rattle.gtfs_rows.specs.RowsInMemory.{IsCut, IsSoundParts, agency_ids, agency_of, content_of_parts, frequency_of, is_number_within, route_ids, service_ids, service_of, stop_ids, stop_row_of, trip_ids, trip_of, trips_of}
 use Rattle.gtfs_rows.specs.declared.frequency.Frequency.{Frequency as FrequencyRow}
 use Rattle.gtfs_rows.specs.declared.parts.Parts.{Parts}
-use Rattle.gtfs_stop_times.specs.ByTrip.{StopTimesOfTrips}
+use Rattle.gtfs_stop_times.specs.StopTimesByTrip.{StopTimesOfTrips}
 use Rattle.gtfs_stop_times.specs.declared.stop_row.StopRow.{StopRow as StopTime}
 use Rattle.gtfs_rows.specs.declared.transfer.Transfer.{Transfer as TransferRow}
 use Rattle.gtfs_rows.specs.declared.trip.Trip.{Trip as TripRow}
 use Rattle.gtfs_rows.proofs.SameElements.{pairs-map}
 use Rattle.gtfs_rows.specs.NamedRows.{has_numbers_below, stop_row_named}
 use Rattle.gtfs_field.specs.TextOrder.{text_cmp}
-use Rattle.gtfs_table.specs.Parts.{parts}
+use Rattle.gtfs_table.specs.FieldOffsets.{parts}
 use Rattle.gtfs_merge.specs.Headsigns.{AreHeadsigns, HeadsignTable}
 use Rattle.gtfs_merge.specs.IdRows.{AreIdRows}
 use Rattle.gtfs_merge.specs.KindEntries.{AllEntries, AreMergedKinds}
-use Rattle.gtfs_merge.specs.Law.{AreFew}
+use Rattle.gtfs_merge.specs.MergedDepartures.{AreFew}
 use Rattle.gtfs_merge.specs.Merged.{zone_texts_differ}
 use Rattle.gtfs_merge.specs.MergedLists.{parts_with}
-use Rattle.gtfs_merge.specs.Sides.{nearness_of, merged_parts, merged_ids}
+use Rattle.gtfs_merge.specs.MergedSides.{nearness_of, merged_parts, merged_ids}
 use Rattle.gtfs_merge.specs.Transfers.{merged_transfers}
 use Rattle.gtfs_merge.specs.TripRows.{StandInTurn, frequencies_from, stop_rows_from}
 use Rattle.gtfs_merge.specs.declared.rows.with_ids.IdRows.{IdRows}

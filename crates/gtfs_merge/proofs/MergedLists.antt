@@ -10,7 +10,7 @@ use Rattle.std.proofs.lemmas.Simd.{map-map}
 use Rattle.gtfs_field.proofs.ListFacts.{mapped_at as row-map}
 use Rattle.gtfs_rows.specs.NamedRows.{names_agency, names_parent, names_route_and_service, route_named, stop_named, trip_named, without_rows}
 use Rattle.gtfs_rows.specs.Rows.{Trip as ContentTrip}
-use Rattle.gtfs_rows.specs.Views.{IsSoundParts, agency_of, agency_ids, is_number_within, route_ids, route_of, service_ids, service_of, stop_ids, stop_of, text_of_number, trips_of}
+use Rattle.gtfs_rows.specs.RowsInMemory.{IsSoundParts, agency_of, agency_ids, is_number_within, route_ids, route_of, service_ids, service_of, stop_ids, stop_of, text_of_number, trips_of}
 use Rattle.gtfs_days.specs.Service.{ServiceDates}
 use Rattle.gtfs_rows.specs.declared.agency.Agency.{Agency}
 use Rattle.gtfs_rows.specs.declared.frequency.Frequency.{Frequency}
@@ -24,14 +24,14 @@ use Rattle.gtfs_rows.specs.declared.service.ServiceRow.{ServiceRow}
 use Rattle.gtfs_rows.specs.declared.stop.Stop.{Stop}
 use Rattle.gtfs_stop_times.specs.declared.stop_row.StopRow.{StopRow}
 use Rattle.gtfs_rows.specs.declared.trip.Trip.{Trip}
-use Rattle.gtfs_table.specs.Parts.{parts}
+use Rattle.gtfs_table.specs.FieldOffsets.{parts}
 use Rattle.gtfs_table.proofs.PartFacts.{length-parts}
-use Rattle.gtfs_merge.specs.Entries.{Entry, entry_of, entry_value}
+use Rattle.gtfs_merge.specs.MergeEntries.{Entry, entry_of, entry_value}
 use Rattle.gtfs_merge.specs.EntryRows.{AreMergedRows, agency_from, route_from, service_from, stop_from, trip_from, trip_under}
 use Rattle.gtfs_merge.specs.FeedIds.{known_ids}
 use Rattle.gtfs_merge.specs.NewNumbers.{AreNewNumbers}
 use Rattle.gtfs_merge.specs.Renaming.{Names, Renaming, renaming}
-use Rattle.gtfs_merge.specs.Sides.{merged_ids, merged_parts, side_names, side_parts}
+use Rattle.gtfs_merge.specs.MergedSides.{merged_ids, merged_parts, side_names, side_parts}
 use Rattle.gtfs_merge.specs.declared.kind.Kind.{Kind}
 use Rattle.gtfs_merge.specs.declared.kind.Kind.TheVariants as kind
 use Rattle.gtfs_merge.specs.declared.kind.Side.{Side}

@@ -9,18 +9,18 @@ use Prim.Native.String.{String as Literal}
 use Rattle.gtfs_table.specs.Rows.{is_empty}
 use Rattle.gtfs_table.specs.declared.file.File.TheVariants as file
 use Rattle.gtfs_schema.specs.Columns.{columns_of, optional, id}
-use Rattle.gtfs_schema.specs.Values.{if_there, word}
+use Rattle.gtfs_schema.specs.FieldValues.{if_there, word}
 use Rattle.gtfs_schema.proofs.SiteFacts.{text_is as same_bytes}
 use Rattle.gtfs_rows.specs.Cells.{is_cell, is_clean, is_filled}
 use Rattle.gtfs_rows.specs.Content.{Content}
 use Rattle.gtfs_rows.specs.RowCells.{id_cell, agency_cells, stop_cells}
 use Rattle.gtfs_rows.specs.Rows.{Agency, Stop}
-use Rattle.gtfs_rows.specs.Sound.{IsSound, is_stop_of, is_sound_agency}
+use Rattle.gtfs_rows.specs.SoundContent.{IsSound, is_stop_of, is_sound_agency}
 use Rattle.gtfs_rows.proofs.Members.{In, In-map, cells-at, list_all-In, map-In}
-use Rattle.gtfs_merge.specs.Law.{AreFew, IsNearness}
+use Rattle.gtfs_merge.specs.MergedDepartures.{AreFew, IsNearness}
 use Rattle.gtfs_merge.specs.Merged.{merged, agency_with, service_with}
 use Rattle.gtfs_merge.specs.Renaming.{Names, Nearness, lists_id, ids, free_id, renamed_b, renaming, names_a, names_b, agency_a, agency_b, joined_agency, joined_route, joined_service, joined_trip, joined_stop_under, stop_within, stop_b, stop_with, route_with, trip_with}
-use Rattle.gtfs_merge.specs.Same.{same_agency}
+use Rattle.gtfs_merge.specs.SameRows.{same_agency}
 use Rattle.gtfs_merge.specs.declared.kind.Kind.{Kind}
 use Rattle.gtfs_merge.specs.declared.kind.Kind.TheVariants as kind
 use Rattle.gtfs_merge.proofs.Lookups.{list_any-In, look}

@@ -11,10 +11,10 @@ use Rattle.std.proofs.lemmas.List.FromFn.{get_or-range_with_len, length-range_wi
 use Rattle.std.proofs.lemmas.List.Kept.{AllPairs-filter}
 use Rattle.std.proofs.lemmas.Option.{slice_get-get_or}
 use Rattle.gtfs_field.specs.TextOrder.{text_cmp}
-use Rattle.gtfs_rows.specs.Order.{Ascends}
+use Rattle.gtfs_rows.specs.TransferOrder.{Ascends}
 use Rattle.gtfs_rows.proofs.SameElements.{contains-filter, contains-from_filter, contains-from_map, contains-map, pairs-map, same-from_permutation}
 use Rattle.gtfs_rows.proofs.Members.{In, map-In}
-use Rattle.gtfs_merge.specs.Entries.{Entry}
+use Rattle.gtfs_merge.specs.MergeEntries.{Entry}
 use Rattle.gtfs_merge.specs.Merged.{by_id}
 use Rattle.gtfs_merge.specs.declared.kind.Side.{Side}
 use Rattle.gtfs_merge.specs.declared.kind.Side.TheVariants as side

@@ -13,14 +13,14 @@ use Rattle.gtfs_schema.specs.Columns.{columns_of}
 use Rattle.gtfs_schema.proofs.SiteFacts.{text_is as same_bytes}
 use Rattle.gtfs_rows.specs.Cells.{are_cells, is_clean}
 use Rattle.gtfs_rows.specs.Content.{Content}
-use Rattle.gtfs_rows.specs.Order.{Ascends, transfer_key, transfer_key_cmp}
+use Rattle.gtfs_rows.specs.TransferOrder.{Ascends, transfer_key, transfer_key_cmp}
 use Rattle.gtfs_rows.specs.RowCells.{agency_cells, stop_cells, route_cells, trip_cells, stop_time_cells, week_cells, exception_cells, frequency_cells, transfer_cells, week_list, stop_times_of, weeks_of, exceptions_of, frequencies_of, cells_in}
 use Rattle.gtfs_rows.specs.Rows.{Agency, Stop, Route, ServiceRow, Trip, Transfer}
-use Rattle.gtfs_rows.specs.Sound.{IsSound, IsInOrder, is_sound_agency, is_sound_stop, is_sound_route, is_sound_service, is_sound_trip, is_sound_transfer}
+use Rattle.gtfs_rows.specs.SoundContent.{IsSound, IsInOrder, is_sound_agency, is_sound_stop, is_sound_route, is_sound_service, is_sound_trip, is_sound_transfer}
 use Rattle.gtfs_rows.proofs.ContentAgain.{transfer_total}
 use Rattle.gtfs_rows.proofs.SameElements.{pairs-map}
 use Rattle.gtfs_rows.proofs.Members.{In, In-append, In-held, In-map, all-In, all-cells, all-from, list_all-In, list_all-from}
-use Rattle.gtfs_merge.specs.Law.{AreFew, IsNearness}
+use Rattle.gtfs_merge.specs.MergedDepartures.{AreFew, IsNearness}
 use Rattle.gtfs_merge.specs.Merged.{merged, by_id, zone_texts_differ, zone_text, agency_with, service_with, transfer_with}
 use Rattle.gtfs_merge.specs.Renaming.{Names, Nearness, Renaming, ids, names_a, names_b, stop_with, route_with, stop_row_with, trip_with}
 use Rattle.gtfs_merge.specs.declared.kind.Kind.{Kind}

@@ -5,9 +5,9 @@ use Rattle.std.specs.List.{list_all}
 use Rattle.std.proofs.lemmas.Bool.{and_from, and_parts, ltb-true}
 use Rattle.std.proofs.lemmas.List.{length-map, map-append}
 use Rattle.gtfs_rows.specs.TransferEnds.{names_ends, transfer_named, transfer_numbers}
-use Rattle.gtfs_rows.specs.Order.{Ascends, transfer_key, transfer_key_cmp}
+use Rattle.gtfs_rows.specs.TransferOrder.{Ascends, transfer_key, transfer_key_cmp}
 use Rattle.gtfs_rows.specs.Rows.{Transfer}
-use Rattle.gtfs_rows.specs.Views.{IsSoundParts, is_number_within, names_route, names_stop, names_trip, route_ids, stop_ids, transfer_names_rows, transfer_of, trip_ids}
+use Rattle.gtfs_rows.specs.RowsInMemory.{IsSoundParts, is_number_within, names_route, names_stop, names_trip, route_ids, stop_ids, transfer_names_rows, transfer_of, trip_ids}
 use Rattle.gtfs_rows.specs.declared.numbers.RouteNo.{RouteNo}
 use Rattle.gtfs_stop_times.specs.declared.numbers.StopNo.{StopNo}
 use Rattle.gtfs_rows.specs.declared.numbers.TripNo.{TripNo}
@@ -19,7 +19,7 @@ use Rattle.gtfs_rows.proofs.Members.{In, In-append, In-map, list_all-In, list_al
 use Rattle.gtfs_merge.specs.KindEntries.{AllEntries, AreMergedKinds}
 use Rattle.gtfs_merge.specs.Merged.{by_transfer, transfer_with}
 use Rattle.gtfs_merge.specs.NewNumbers.{numbers_of}
-use Rattle.gtfs_merge.specs.Sides.{merged_ids, merged_parts, side_names, side_parts}
+use Rattle.gtfs_merge.specs.MergedSides.{merged_ids, merged_parts, side_names, side_parts}
 use Rattle.gtfs_merge.specs.Transfers.{IsWithin, ends_cmp, merged_transfers, transfer_on, transfers_on}
 use Rattle.gtfs_merge.specs.declared.kind.Kind.TheVariants as kind
 use Rattle.gtfs_merge.specs.declared.kind.Side.{Side}

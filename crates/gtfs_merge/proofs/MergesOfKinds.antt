@@ -6,15 +6,15 @@ use Rattle.std.specs.Ordering.{on}
 use Rattle.std.proofs.lemmas.Bool.{and_parts}
 use Rattle.gtfs_field.specs.TextOrder.{text_cmp}
 use Rattle.gtfs_rows.specs.Content.{Content}
-use Rattle.gtfs_rows.specs.Order.{Ascends}
-use Rattle.gtfs_rows.specs.Views.{IsSoundParts, content_of_parts, text_of_number}
-use Rattle.gtfs_merge.specs.Entries.{Entry, rows_of_a, rows_of_b}
+use Rattle.gtfs_rows.specs.TransferOrder.{Ascends}
+use Rattle.gtfs_rows.specs.RowsInMemory.{IsSoundParts, content_of_parts, text_of_number}
+use Rattle.gtfs_merge.specs.MergeEntries.{Entry, rows_of_a, rows_of_b}
 use Rattle.gtfs_merge.specs.EntryRows.{AreMergedRows, trip_under}
 use Rattle.gtfs_merge.specs.FeedIds.{known_ids}
-use Rattle.gtfs_merge.specs.Law.{AreFew}
+use Rattle.gtfs_merge.specs.MergedDepartures.{AreFew}
 use Rattle.gtfs_merge.specs.Merged.{agency_with, by_id, service_with}
 use Rattle.gtfs_merge.specs.Renaming.{Names, agency_a, agency_b, lists_id, ids, joined_agency, joined_route, joined_service, joined_stop_under, joined_trip, names_a, names_b, renaming, route_with, stop_with, stop_within}
-use Rattle.gtfs_merge.specs.Sides.{side_parts, side_content, nearness_of, side_names}
+use Rattle.gtfs_merge.specs.MergedSides.{side_parts, side_content, nearness_of, side_names}
 use Rattle.gtfs_merge.specs.Twins.{twin_number}
 use Rattle.gtfs_merge.specs.declared.kind.Kind.{Kind}
 use Rattle.gtfs_merge.specs.declared.kind.Kind.TheVariants as kind

@@ -4,12 +4,12 @@ use Rattle.std.specs.Prelude.{if◌then◌else◌}
 use Rattle.std.proofs.lemmas.Bool.{or_cases, or_left, or_right}
 use Rattle.gtfs_schema.proofs.SiteFacts.{text_is as same_bytes}
 use Rattle.gtfs_rows.specs.Content.{Content}
-use Rattle.gtfs_rows.specs.Views.{IsSoundParts, content_of_parts}
-use Rattle.gtfs_merge.specs.Law.{AreFew}
+use Rattle.gtfs_rows.specs.RowsInMemory.{IsSoundParts, content_of_parts}
+use Rattle.gtfs_merge.specs.MergedDepartures.{AreFew}
 use Rattle.gtfs_merge.specs.Names.{MeetWhereJoined, NamesOfKind, kind_names, may_meet, new_id}
-use Rattle.gtfs_merge.specs.Near.{nearness}
+use Rattle.gtfs_merge.specs.NearStops.{nearness}
 use Rattle.gtfs_merge.specs.Renaming.{Names, lists_id, ids, is_joined, joined_ids, joined_stop, name_of_id, names_a, names_b, never_near, renamed_b, renaming, stop_b}
-use Rattle.gtfs_merge.specs.Sides.{nearness_of}
+use Rattle.gtfs_merge.specs.MergedSides.{nearness_of}
 use Rattle.gtfs_merge.specs.declared.kind.Kind.{Kind}
 use Rattle.gtfs_merge.specs.declared.kind.Kind.TheVariants as kind
 use Rattle.gtfs_merge.specs.declared.kind.Side.TheVariants as side

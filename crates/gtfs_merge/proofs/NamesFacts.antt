@@ -15,15 +15,15 @@ use Rattle.gtfs_field.specs.TextOrder.{text_cmp}
 use Rattle.gtfs_schema.proofs.SiteFacts.{text_is as same_bytes}
 use Rattle.gtfs_rows.specs.Content.{Content}
 use Rattle.gtfs_rows.specs.declared.parts.Parts.{Parts}
-use Rattle.gtfs_rows.specs.Views.{IsSoundParts, content_of_parts}
+use Rattle.gtfs_rows.specs.RowsInMemory.{IsSoundParts, content_of_parts}
 use Rattle.gtfs_rows.proofs.ByKey.{by_key_is}
 use Rattle.gtfs_rows.proofs.Held.{text_antisymmetric}
 use Rattle.gtfs_rows.proofs.SameElements.{SameElements, contains-filter, contains-from_filter}
-use Rattle.gtfs_merge.specs.Departures.{StaysApart}
+use Rattle.gtfs_merge.specs.DeparturesOfBoth.{StaysApart}
 use Rattle.gtfs_merge.specs.FeedIds.{known_ids}
 use Rattle.gtfs_merge.specs.Names.{AllNames, in_kind, kind_names, new_id, new_ids, of_side}
 use Rattle.gtfs_merge.specs.Renaming.{lists_id, ids, name_of_id, Names, Renaming, renaming}
-use Rattle.gtfs_merge.specs.Sides.{is_joined_id, nearness_of, side_names, side_parts}
+use Rattle.gtfs_merge.specs.MergedSides.{is_joined_id, nearness_of, side_names, side_parts}
 use Rattle.gtfs_merge.specs.declared.kind.Kind.{Kind}
 use Rattle.gtfs_merge.specs.declared.kind.Kind.TheVariants as kind
 use Rattle.gtfs_merge.specs.declared.kind.Side.{Side}

@@ -1,13 +1,13 @@
 -- All that the names of two feeds promise, where each kind has its table.
 use Rattle.std.proofs.Common.{◌≡◌, ◌<◌, ◌+◌, ◌^◌, ◌∙◌, ℕ, false, List, ap, arith, length, sym}
 use Rattle.gtfs_rows.specs.Content.{Content}
-use Rattle.gtfs_rows.specs.Views.{IsSoundParts, content_of_parts}
-use Rattle.gtfs_merge.specs.Law.{AreFew}
+use Rattle.gtfs_rows.specs.RowsInMemory.{IsSoundParts, content_of_parts}
+use Rattle.gtfs_merge.specs.MergedDepartures.{AreFew}
 use Rattle.gtfs_merge.specs.Merging.{AreNamesOf}
 use Rattle.gtfs_merge.specs.Names.{AllNames, AreApart, AreKindNames, in_kind, may_meet, new_id, of_side}
-use Rattle.gtfs_merge.specs.Near.{near_pairs}
+use Rattle.gtfs_merge.specs.NearStops.{near_pairs}
 use Rattle.gtfs_merge.specs.Renaming.{ids, name_of_id, names_a, names_b}
-use Rattle.gtfs_merge.specs.Sides.{nearness_of}
+use Rattle.gtfs_merge.specs.MergedSides.{nearness_of}
 use Rattle.gtfs_merge.specs.declared.kind.Kind.{Kind}
 use Rattle.gtfs_merge.specs.declared.kind.Side.{Side}
 use Rattle.gtfs_merge.specs.declared.kind.Side.TheVariants as side

@@ -11,11 +11,11 @@ use Rattle.gtfs_field.proofs.ListFacts.{some_of}
 use Rattle.gtfs_schema.proofs.SiteFacts.{text_is as same_bytes}
 use Rattle.gtfs_rows.specs.Content.{Content}
 use Rattle.gtfs_rows.specs.Rows.{Stop}
-use Rattle.gtfs_rows.specs.Views.{IsSoundParts, content_of_parts, stop_ids}
-use Rattle.gtfs_merge.specs.Law.{AreFew}
-use Rattle.gtfs_merge.specs.Near.{near_pair, near_pairs}
+use Rattle.gtfs_rows.specs.RowsInMemory.{IsSoundParts, content_of_parts, stop_ids}
+use Rattle.gtfs_merge.specs.MergedDepartures.{AreFew}
+use Rattle.gtfs_merge.specs.NearStops.{near_pair, near_pairs}
 use Rattle.gtfs_merge.specs.Renaming.{Nearness, Renaming, lists_id, ids, joined_stop, joined_stop_under, near_stop_under, stop_b, stop_within}
-use Rattle.gtfs_merge.specs.Sides.{content_a, content_b, nearness_of}
+use Rattle.gtfs_merge.specs.MergedSides.{content_a, content_b, nearness_of}
 use Rattle.gtfs_merge.specs.Twins.{near_at, pairs_at, twin_number, twin_rows}
 use Rattle.gtfs_merge.specs.declared.kind.Kind.{Kind}
 use Rattle.gtfs_merge.specs.declared.kind.Kind.TheVariants as kind

@@ -10,20 +10,20 @@ use Rattle.std.proofs.lemmas.Option.{slice_get-get_or}
 use Rattle.gtfs_field.proofs.ListFacts.{mapped_at as row-map, position_any as before-any, some_of}
 use Rattle.gtfs_field.specs.TextOrder.{text_cmp}
 use Rattle.gtfs_schema.proofs.NamedFacts.{text_turned as bytes_flip}
-use Rattle.gtfs_rows.specs.Choices.{location_code}
+use Rattle.gtfs_rows.specs.RowChoices.{location_code}
 use Rattle.gtfs_rows.specs.Content.{Content}
-use Rattle.gtfs_rows.specs.Order.{Ascends}
+use Rattle.gtfs_rows.specs.TransferOrder.{Ascends}
 use Rattle.gtfs_rows.specs.Rows.{Stop}
-use Rattle.gtfs_rows.specs.Views.{IsSoundParts, content_of_parts, stop_of, stop_ids}
+use Rattle.gtfs_rows.specs.RowsInMemory.{IsSoundParts, content_of_parts, stop_of, stop_ids}
 use Rattle.gtfs_rows.specs.declared.stop.Stop.{Stop as StopByNumber}
 use Rattle.gtfs_rows.proofs.SoundOrder.{in_order}
 use Rattle.gtfs_rows.proofs.NumberFacts.{own_number}
-use Rattle.gtfs_nearby.specs.Near.{are_close, same_given_name}
+use Rattle.gtfs_nearby.specs.NearRows.{are_close, same_given_name}
 use Rattle.gtfs_rows.proofs.Members.{In}
-use Rattle.gtfs_merge.specs.Near.{near_by, nearness}
-use Rattle.gtfs_nearby.specs.Near.{NearStops, is_near_row, is_same_parent}
+use Rattle.gtfs_merge.specs.NearStops.{near_by, nearness}
+use Rattle.gtfs_nearby.specs.NearRows.{NearStops, is_near_row, is_same_parent}
 use Rattle.gtfs_merge.specs.Renaming.{Renaming, near_stop_under}
-use Rattle.gtfs_merge.specs.Sides.{nearness_of}
+use Rattle.gtfs_merge.specs.MergedSides.{nearness_of}
 use Rattle.gtfs_merge.specs.Twins.{near_stops, parent_became}
 use Rattle.gtfs_merge.specs.declared.sides.Sides.{Sides}
 use Rattle.gtfs_merge.proofs.JoinedRows.{look-own}

@@ -7,12 +7,12 @@ use Rattle.gtfs_table.specs.Rows.{is_empty}
 use Rattle.gtfs_schema.proofs.SiteFacts.{text_is as same_bytes}
 use Rattle.gtfs_rows.specs.Content.{Content}
 use Rattle.gtfs_rows.specs.Rows.{Agency}
-use Rattle.gtfs_rows.specs.Sound.{IsSound, is_sound_agency}
+use Rattle.gtfs_rows.specs.SoundContent.{IsSound, is_sound_agency}
 use Rattle.gtfs_rows.specs.declared.parts.Parts.{Parts}
-use Rattle.gtfs_rows.specs.Views.{IsSoundParts, content_of_parts}
+use Rattle.gtfs_rows.specs.RowsInMemory.{IsSoundParts, content_of_parts}
 use Rattle.gtfs_rows.proofs.Members.{In, list_all-In}
 use Rattle.gtfs_merge.specs.FeedIds.{known_ids}
-use Rattle.gtfs_merge.specs.Law.{AreFew, IsNearness}
+use Rattle.gtfs_merge.specs.MergedDepartures.{AreFew, IsNearness}
 use Rattle.gtfs_merge.specs.Names.{is_nameless}
 use Rattle.gtfs_merge.specs.Renaming.{Nearness, lists_id, ids, is_joined, free_id, merged_id, renamed_b, renaming, names_a, names_b, agency_a, agency_b, joined_agency, joined_stop_under, stop_within}
 use Rattle.gtfs_merge.specs.declared.kind.Kind.{Kind}

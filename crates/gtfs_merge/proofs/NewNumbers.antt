@@ -6,14 +6,14 @@ use Rattle.std.proofs.lemmas.List.{get_or-map, length-map}
 use Rattle.std.proofs.lemmas.List.Elements.{Contains-append_cases, Contains-append_left, Contains-append_right, Contains-get_or}
 use Rattle.std.proofs.lemmas.List.Quantifiers.{position-Some}
 use Rattle.gtfs_schema.proofs.SiteFacts.{text_is as same_bytes}
-use Rattle.gtfs_rows.specs.Views.{IsSoundParts, content_of_parts, text_of_number}
+use Rattle.gtfs_rows.specs.RowsInMemory.{IsSoundParts, content_of_parts, text_of_number}
 use Rattle.gtfs_rows.proofs.SameElements.{contains-filter, contains-from_map, contains-map, same-from_permutation}
-use Rattle.gtfs_merge.specs.Entries.{Entry, entry_of, is_apart, rows_of_a, rows_of_b}
+use Rattle.gtfs_merge.specs.MergeEntries.{Entry, entry_of, is_apart, rows_of_a, rows_of_b}
 use Rattle.gtfs_merge.specs.EntryRows.{AreMergedRows}
 use Rattle.gtfs_merge.specs.FeedIds.{known_ids}
 use Rattle.gtfs_merge.specs.NewNumbers.{AreNewNumbers, AreNumbered, AreRenumbered, IsIndexOf, NewNumbers, number_or, numbers_of}
 use Rattle.gtfs_merge.specs.Renaming.{lists_id, ids, renaming}
-use Rattle.gtfs_merge.specs.Sides.{side_parts, side_names, merged_ids}
+use Rattle.gtfs_merge.specs.MergedSides.{side_parts, side_names, merged_ids}
 use Rattle.gtfs_merge.specs.Twins.{of_kind, twin_number, twin_rows}
 use Rattle.gtfs_merge.specs.declared.kind.Kind.{Kind}
 use Rattle.gtfs_merge.specs.declared.kind.Side.{Side}

@@ -7,7 +7,7 @@ use Rattle.std.proofs.lemmas.List.{get_or-map, get_or_default, length-map, map-a
 use Rattle.std.proofs.lemmas.List.Elements.{filter-append}
 use Rattle.gtfs_field.proofs.ListFacts.{range-push as range-more}
 use Rattle.gtfs_field.specs.TextOrder.{text_cmp}
-use Rattle.gtfs_merge.specs.Entries.{Entry, entry_value}
+use Rattle.gtfs_merge.specs.MergeEntries.{Entry, entry_value}
 use Rattle.gtfs_merge.specs.declared.kind.Side.TheVariants as side
 use Rattle.gtfs_merge.specs.declared.numbering.sorted_rows.MergedRow.{MergedRow}
 

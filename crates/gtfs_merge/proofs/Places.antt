@@ -9,14 +9,14 @@ use Rattle.gtfs_times.specs.declared.times.Times.{Times}
 use Rattle.gtfs_merge.proofs.TimedIds.{ids-timed, keys-timed}
 use Rattle.gtfs_merge.proofs.TimedFeeds.{places-timed}
 use Rattle.gtfs_rows.specs.Content.{Content}
-use Rattle.gtfs_schema.specs.Values.{if_there}
+use Rattle.gtfs_schema.specs.FieldValues.{if_there}
 use Rattle.gtfs_schema.proofs.SiteFacts.{text_is as same_bytes}
 use Rattle.gtfs_rows.specs.Key.{Key}
 use Rattle.gtfs_rows.specs.Departures.{is_above, is_within, Origins, departs_at, departs_from}
 use Rattle.gtfs_rows.specs.Places.{is_plain_stop, is_in_place}
 use Rattle.gtfs_merge.specs.Renaming.{Nearness, kept_as_is, lists_id, ids, names_a, names_b, stop_with, stop_b, trip_b}
 use Rattle.gtfs_merge.specs.Merged.{merged}
-use Rattle.gtfs_merge.specs.Departures.{key_with, IsImageAt, HasBoards}
+use Rattle.gtfs_merge.specs.DeparturesOfBoth.{key_with, IsImageAt, HasBoards}
 use Rattle.gtfs_merge.specs.declared.kind.Kind.TheVariants as kind
 use Rattle.gtfs_merge.proofs.Lookups.{bytes_same, list_any-alike, holds_at, look, IsKeyed, keyed-by_id}
 use Rattle.gtfs_merge.proofs.MergedRows.{found, found_id}

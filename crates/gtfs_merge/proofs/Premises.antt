@@ -6,13 +6,13 @@ use Rattle.std.specs.Ordering.{on}
 use Rattle.std.proofs.lemmas.Bool.{and_parts, or_cases}
 use Rattle.gtfs_field.proofs.ListFacts.{any_mapped as list_any-map}
 use Rattle.gtfs_field.specs.TextOrder.{text_cmp}
-use Rattle.gtfs_schema.specs.Values.{if_there}
+use Rattle.gtfs_schema.specs.FieldValues.{if_there}
 use Rattle.gtfs_field.proofs.TextOrderFacts.{texts_total}
 use Rattle.gtfs_schema.proofs.NamedFacts.{text_turned as bytes_flip}
 use Rattle.gtfs_rows.specs.Content.{Content}
-use Rattle.gtfs_rows.specs.Order.{Ascends}
+use Rattle.gtfs_rows.specs.TransferOrder.{Ascends}
 use Rattle.gtfs_rows.specs.Rows.{Stop, StopRow, Trip}
-use Rattle.gtfs_rows.specs.Sound.{has_id as has_row, IsSound, is_sound_trip, is_sound_stop, is_sound_in, is_sound_stop_row, is_stop_of, has_right_parent}
+use Rattle.gtfs_rows.specs.SoundContent.{has_id as has_row, IsSound, is_sound_trip, is_sound_stop, is_sound_in, is_sound_stop_row, is_stop_of, has_right_parent}
 use Rattle.gtfs_rows.proofs.ByKey.{by_key_is}
 use Rattle.gtfs_rows.proofs.Held.{text_antisymmetric}
 use Rattle.gtfs_rows.proofs.Members.{In, list_all-In}

@@ -5,7 +5,7 @@ use Rattle.std.specs.List.{slice_get}
 use Rattle.std.proofs.lemmas.Bool.{lt-ltb}
 use Rattle.std.proofs.lemmas.List.{get_or-map, length-map}
 use Rattle.std.proofs.lemmas.Option.{get_or_from_slice_get, slice_get_within}
-use Rattle.gtfs_rows.specs.Views.{is_number_within, text_of_number}
+use Rattle.gtfs_rows.specs.RowsInMemory.{is_number_within, text_of_number}
 use Rattle.gtfs_merge.specs.Headsigns.{AreNumbersOf}
 use Rattle.gtfs_merge.specs.NewNumbers.{AreNewNumbers}
 use Rattle.gtfs_merge.specs.Renaming.{Renaming}

@@ -5,9 +5,9 @@ use Rattle.std.specs.List.{list_any}
 use Rattle.std.proofs.lemmas.Bool.{or_cases}
 use Rattle.gtfs_rows.specs.Content.{Content}
 use Rattle.gtfs_rows.specs.Rows.{Stop}
-use Rattle.gtfs_rows.specs.Sound.{IsSound, is_stop_of, has_right_parent}
+use Rattle.gtfs_rows.specs.SoundContent.{IsSound, is_stop_of, has_right_parent}
 use Rattle.gtfs_rows.proofs.Members.{In}
-use Rattle.gtfs_merge.specs.Law.{AreFew, IsNearness}
+use Rattle.gtfs_merge.specs.MergedDepartures.{AreFew, IsNearness}
 use Rattle.gtfs_merge.specs.Renaming.{Nearness, lists_id, ids, joined_stop, joined_stop_under, near_stop_under, stop_b, stop_within}
 use Rattle.gtfs_merge.specs.declared.kind.Kind.TheVariants as kind
 use Rattle.gtfs_merge.proofs.MergedRows.{found, found_id}

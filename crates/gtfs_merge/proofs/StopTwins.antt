@@ -5,13 +5,13 @@ use Rattle.std.specs.List.{slice_get}
 use Rattle.std.proofs.Math.Seq.{take-suc}
 use Rattle.std.proofs.lemmas.List.{length-map, map-append}
 use Rattle.gtfs_rows.specs.Content.{Content}
-use Rattle.gtfs_rows.specs.Views.{IsSoundParts, content_of_parts, stop_ids, text_of_number}
+use Rattle.gtfs_rows.specs.RowsInMemory.{IsSoundParts, content_of_parts, stop_ids, text_of_number}
 use Rattle.gtfs_stop_times.specs.declared.numbers.StopNo.{StopNo}
 use Rattle.gtfs_rows.specs.declared.stop.Stop.{Stop as StopByNumber}
 use Rattle.gtfs_rows.proofs.NumberFacts.{stop_parent}
 use Rattle.gtfs_merge.specs.JoinedNumbers.{number_if}
 use Rattle.gtfs_merge.specs.Renaming.{lists_id, joined_stop, stop_b}
-use Rattle.gtfs_merge.specs.Sides.{nearness_of}
+use Rattle.gtfs_merge.specs.MergedSides.{nearness_of}
 use Rattle.gtfs_merge.specs.Twins.{became, parent_became, twin_numbers}
 use Rattle.gtfs_merge.specs.declared.kind.Kind.TheVariants as kind
 use Rattle.gtfs_merge.specs.declared.sides.Sides.{Sides}

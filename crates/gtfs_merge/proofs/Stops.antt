@@ -8,13 +8,13 @@ use Rattle.gtfs_rows.specs.Rows.{Stop, StopRow, Trip}
 use Rattle.gtfs_rows.specs.Content.{Content}
 use Rattle.gtfs_rows.specs.Places.{is_plain_stop}
 use Rattle.gtfs_rows.proofs.Members.{In}
-use Rattle.gtfs_merge.specs.Same.{same_stop}
+use Rattle.gtfs_merge.specs.SameRows.{same_stop}
 use Rattle.gtfs_merge.specs.Renaming.{Renaming, Nearness, never_near, kept_as_is, lists_id, ids, free_id, stop_with, joined_stop_under, near_stop_under, stop_under, stop_within, stop_b, renamed_b}
 use Rattle.gtfs_merge.specs.Merged.{merged}
-use Rattle.gtfs_nearby.specs.Near.{are_close, same_given_name}
-use Rattle.gtfs_merge.specs.Near.{near_by, nearness}
+use Rattle.gtfs_nearby.specs.NearRows.{are_close, same_given_name}
+use Rattle.gtfs_merge.specs.NearStops.{near_by, nearness}
 use Rattle.gtfs_merge.specs.declared.kind.Kind.TheVariants as kind
-pub use Rattle.gtfs_merge.specs.Law.{IsNearness}
+pub use Rattle.gtfs_merge.specs.MergedDepartures.{IsNearness}
 use Rattle.gtfs_merge.proofs.Lookups.{bytes_same, In-list_any, find-In, holds_at, look, IsKeyed}
 use Rattle.gtfs_merge.proofs.Fresh.{renamed_into_a, renamed_apart}
 use Rattle.gtfs_merge.proofs.Equal.{alike-stop, exact-nat, exact-text}

@@ -6,23 +6,23 @@ use Rattle.std.proofs.Math.ListN.{get_or-map}
 use Rattle.std.proofs.lemmas.List.{length-map}
 use Rattle.std.proofs.lemmas.List.Elements.{All-cons, All-head, All-nil, All-tail}
 use Rattle.std.proofs.lemmas.Simd.{map-map}
-use Rattle.gtfs_table.specs.Parts.{parts}
+use Rattle.gtfs_table.specs.FieldOffsets.{parts}
 use Rattle.gtfs_rows.specs.Trips.{stop_rows_by_trip}
-use Rattle.gtfs_rows.specs.Views.{IsSoundParts}
+use Rattle.gtfs_rows.specs.RowsInMemory.{IsSoundParts}
 use Rattle.gtfs_rows.specs.declared.parts.Parts.{Parts}
-use Rattle.gtfs_stop_times.specs.ByTrip.{in_turn}
-use Rattle.gtfs_stop_times.specs.Joined.{IsTripOf, trip_rows}
-use Rattle.gtfs_stop_times.specs.Renumbered.{renumbered_row}
+use Rattle.gtfs_stop_times.specs.StopTimesByTrip.{in_turn}
+use Rattle.gtfs_stop_times.specs.JoinedStopTimes.{IsTripOf, trip_rows}
+use Rattle.gtfs_stop_times.specs.RenumberedRows.{renumbered_row}
 use Rattle.gtfs_stop_times.specs.declared.joined.TripOf.{TripOf}
 use Rattle.gtfs_stop_times.specs.declared.stop_row.StopRow.{StopRow}
 use Rattle.gtfs_stop_times.proofs.Turns.{end-first, parts-in_turn, parts-map, rising-starts}
-use Rattle.gtfs_merge.specs.Entries.{Entry}
+use Rattle.gtfs_merge.specs.MergeEntries.{Entry}
 use Rattle.gtfs_merge.specs.FeedIds.{known_ids}
 use Rattle.gtfs_merge.specs.Headsigns.{HeadsignTable, numbers_on}
 use Rattle.gtfs_merge.specs.KindEntries.{AllEntries, AreMergedKinds}
 use Rattle.gtfs_merge.specs.MergedLists.{joined_stop_times}
 use Rattle.gtfs_merge.specs.NewNumbers.{NewNumbers, numbers_of}
-use Rattle.gtfs_merge.specs.Sides.{side_parts}
+use Rattle.gtfs_merge.specs.MergedSides.{side_parts}
 use Rattle.gtfs_merge.specs.TripRows.{StandInTurn, stop_rows_from, entry_trip, trip_on, with_numbers}
 use Rattle.gtfs_merge.specs.declared.kind.Kind.TheVariants as kind
 use Rattle.gtfs_merge.specs.declared.kind.Side.{Side}

@@ -2,11 +2,11 @@
 use Rattle.std.proofs.Common.{◌≡◌, ◌<◌, ◌+◌, ◌^◌, ◌∙◌, ℕ, List, [], sym, ap, subst, length, map, get_or, is_some, false, true, None, arith}
 use Rattle.std.proofs.lemmas.List.{get_or-map}
 use Rattle.gtfs_rows.specs.Content.{Content}
-use Rattle.gtfs_rows.specs.Views.{IsSoundParts, content_of_parts}
+use Rattle.gtfs_rows.specs.RowsInMemory.{IsSoundParts, content_of_parts}
 use Rattle.gtfs_merge.specs.FeedIds.{known_ids}
 use Rattle.gtfs_merge.specs.JoinedNumbers.{joined_number, joined_numbers, number_if}
 use Rattle.gtfs_merge.specs.Renaming.{lists_id, ids, joined_route, joined_service, joined_trip, renaming}
-use Rattle.gtfs_merge.specs.Sides.{is_joined_id, nearness_of, side_names}
+use Rattle.gtfs_merge.specs.MergedSides.{is_joined_id, nearness_of, side_names}
 use Rattle.gtfs_merge.specs.Twins.{became, is_joined_at, twin_number, twin_numbers, twin_rows}
 use Rattle.gtfs_merge.specs.declared.kind.Kind.{Kind}
 use Rattle.gtfs_merge.specs.declared.kind.Kind.TheVariants as kind

@@ -4,12 +4,12 @@ use Rattle.gtfs_rows.specs.Rows.{ServiceRow, StopRow, Trip}
 use Rattle.gtfs_rows.specs.Content.{Content}
 use Rattle.gtfs_rows.specs.Key.{Key}
 use Rattle.gtfs_rows.specs.Departures.{Origins, departs_from, is_departure, any_row}
-use Rattle.gtfs_merge.specs.Same.{same_trip, same_service}
+use Rattle.gtfs_merge.specs.SameRows.{same_trip, same_service}
 use Rattle.gtfs_merge.specs.Renaming.{Names, Nearness, kept_as_is, lists_id, ids, trip_with, stop_row_with, names_a, names_b, trip_b, route_b, service_b, stop_b, joined_trip, joined_service}
 use Rattle.gtfs_merge.specs.Merged.{service_with, merged}
-use Rattle.gtfs_merge.specs.Departures.{key_with, IsImage, HasUnion, SharesJoined}
+use Rattle.gtfs_merge.specs.DeparturesOfBoth.{key_with, IsImage, HasUnion, SharesJoined}
 use Rattle.gtfs_merge.specs.declared.kind.Kind.TheVariants as kind
-pub use Rattle.gtfs_merge.specs.Law.{AreFew}
+pub use Rattle.gtfs_merge.specs.MergedDepartures.{AreFew}
 use Rattle.gtfs_times.specs.Filling.{timed}
 use Rattle.gtfs_times.specs.declared.times.Times.{Times}
 use Rattle.gtfs_merge.proofs.TimedIds.{carried-timed, ids-timed, keys-timed, look-back, named-timed}

@@ -8,11 +8,11 @@ use Rattle.gtfs_days.specs.declared.cut.Cut.TheVariants.{Before, From}
 use Rattle.gtfs_rows.specs.Content.{Content}
 use Rattle.gtfs_rows.specs.Departures.{Origins, departs_at, is_departure}
 use Rattle.gtfs_rows.specs.Key.{Key}
-use Rattle.gtfs_rows.specs.Trimmed.{first_part, second_part, trimmed}
+use Rattle.gtfs_rows.specs.TrimmedContent.{first_part, second_part, trimmed}
 use Rattle.gtfs_times.specs.Filling.{timed}
 use Rattle.gtfs_times.specs.declared.times.Times.{Times}
 use Rattle.gtfs_merge.specs.Merged.{merged}
-use Rattle.gtfs_merge.specs.Near.{nearness}
+use Rattle.gtfs_merge.specs.NearStops.{nearness}
 
 -- what is merged: both feeds, with a cutoff the first one before it and the second one from it on
 abbrev pub merged_as : Option ℕ → Option ℤ → Content → Content → Content

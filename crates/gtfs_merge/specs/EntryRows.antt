@@ -3,13 +3,13 @@ use Rattle.std.specs.Prelude.{◌≡◌, ◌<◌, List, ◌++◌, All, length, m
 use Rattle.std.specs.List.Sorted.{IsPermutation}
 use Rattle.std.specs.Ordering.{on}
 use Rattle.gtfs_field.specs.TextOrder.{text_cmp}
-use Rattle.gtfs_rows.specs.Order.{Ascends}
+use Rattle.gtfs_rows.specs.TransferOrder.{Ascends}
 use Rattle.gtfs_rows.specs.Rows.{Agency, Stop, Route, ServiceRow, Trip}
-use Rattle.gtfs_merge.specs.Entries.{Entry, rows_of_a, rows_of_b}
+use Rattle.gtfs_merge.specs.MergeEntries.{Entry, rows_of_a, rows_of_b}
 use Rattle.gtfs_merge.specs.FeedIds.{known_ids}
 use Rattle.gtfs_merge.specs.Merged.{agency_with, service_with}
 use Rattle.gtfs_merge.specs.Renaming.{Names, route_with, stop_with, trip_with}
-use Rattle.gtfs_merge.specs.Sides.{side_parts, side_content, side_names, merged_parts, merged_ids}
+use Rattle.gtfs_merge.specs.MergedSides.{side_parts, side_content, side_names, merged_parts, merged_ids}
 use Rattle.gtfs_merge.specs.declared.kind.Kind.{Kind}
 use Rattle.gtfs_merge.specs.declared.kind.Kind.TheVariants as kind
 use Rattle.gtfs_merge.specs.declared.sides.Sides.{Sides}

@@ -1,6 +1,6 @@
 -- The ids of a kind that a feed has, by their numbers.
 use Rattle.std.specs.Prelude.{ℕ, List}
-use Rattle.gtfs_rows.specs.Views.{agency_ids, route_ids, service_ids, stop_ids, trip_ids}
+use Rattle.gtfs_rows.specs.RowsInMemory.{agency_ids, route_ids, service_ids, stop_ids, trip_ids}
 use Rattle.gtfs_rows.specs.declared.parts.Parts.{Parts}
 use Rattle.gtfs_merge.specs.declared.kind.Kind.{Kind}
 use Rattle.gtfs_merge.specs.declared.kind.Kind.TheVariants as kind

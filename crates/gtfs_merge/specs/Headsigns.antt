@@ -1,7 +1,7 @@
 -- The headsigns of the stop times of a merged feed: those of both feeds, each once.
 use Rattle.std.specs.Prelude.{◌≡◌, ℕ, List, map, Option, Some, option_and_then, slice_get}
 use Rattle.gtfs_rows.specs.Headsigns.{AreDistinct}
-use Rattle.gtfs_merge.specs.Sides.{side_parts}
+use Rattle.gtfs_merge.specs.MergedSides.{side_parts}
 use Rattle.gtfs_merge.specs.declared.kind.Side.{Side}
 use Rattle.gtfs_merge.specs.declared.kind.Side.TheVariants as side
 use Rattle.gtfs_merge.specs.declared.sides.Sides.{Sides}

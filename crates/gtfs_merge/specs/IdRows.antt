@@ -2,8 +2,8 @@
 use Rattle.std.specs.Prelude.{◌≡◌, true, map}
 use Rattle.std.specs.List.{list_all}
 use Rattle.gtfs_rows.specs.NamedRows.{names_agency, names_parent, names_route_and_service, route_named, stop_named, trip_named, without_rows}
-use Rattle.gtfs_rows.specs.Views.{agency_of, service_of}
-use Rattle.gtfs_merge.specs.Sides.{merged_parts, merged_ids}
+use Rattle.gtfs_rows.specs.RowsInMemory.{agency_of, service_of}
+use Rattle.gtfs_merge.specs.MergedSides.{merged_parts, merged_ids}
 use Rattle.gtfs_merge.specs.declared.rows.with_ids.IdRows.{IdRows}
 use Rattle.gtfs_merge.specs.declared.kind.Kind.TheVariants as kind
 use Rattle.gtfs_merge.specs.declared.sides.Sides.{Sides}

@@ -1,6 +1,6 @@
 -- The merged rows of each kind with the new numbers of both sides.
 use Rattle.std.specs.Prelude.{List}
-use Rattle.gtfs_merge.specs.Entries.{Entry}
+use Rattle.gtfs_merge.specs.MergeEntries.{Entry}
 use Rattle.gtfs_merge.specs.EntryRows.{AreMergedRows}
 use Rattle.gtfs_merge.specs.NewNumbers.{AreRenumbered, NewNumbers}
 use Rattle.gtfs_merge.specs.declared.kind.Kind.{Kind}

@@ -3,10 +3,10 @@ use Rattle.std.specs.Prelude.{ℕ, Bool, List, ◌++◌, map, not, bytes_eq, sli
 use Rattle.std.specs.Option.{option_eq}
 use Rattle.std.specs.List.{list_any}
 use Rattle.gtfs_field.specs.TextOrder.{text_cmp}
-use Rattle.gtfs_table.specs.Reading.{kept_files}
+use Rattle.gtfs_table.specs.TablesRead.{kept_files}
 use Rattle.gtfs_rows.specs.Content.{Content}
 use Rattle.gtfs_rows.specs.FileTexts.{is_longer}
-use Rattle.gtfs_rows.specs.Order.{by_key, transfer_key, transfer_key_cmp}
+use Rattle.gtfs_rows.specs.TransferOrder.{by_key, transfer_key, transfer_key_cmp}
 use Rattle.gtfs_rows.specs.Rows.{Agency, ServiceRow, Transfer}
 use Rattle.gtfs_merge.specs.Renaming.{Renaming, Nearness, Names, names_a, names_b, stop_with, route_with, trip_with}
 

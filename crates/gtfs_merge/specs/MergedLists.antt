@@ -1,12 +1,12 @@
 -- All lists of a merged feed.
 use Rattle.std.specs.Prelude.{◌≡◌, ℕ, List, length, map}
 use Rattle.std.specs.List.{All}
-use Rattle.gtfs_rows.specs.Views.{IsSoundParts, content_of_parts}
+use Rattle.gtfs_rows.specs.RowsInMemory.{IsSoundParts, content_of_parts}
 use Rattle.gtfs_rows.specs.declared.parts.Parts.{Parts}
 use Rattle.gtfs_rows.specs.declared.transfer.Transfer.{Transfer}
-use Rattle.gtfs_stop_times.specs.ByTrip.{StopTimesOfTrips, in_turn}
-use Rattle.gtfs_stop_times.specs.Joined.{IsTripOf, trip_rows}
-use Rattle.gtfs_merge.specs.Sides.{merged_parts}
+use Rattle.gtfs_stop_times.specs.StopTimesByTrip.{StopTimesOfTrips, in_turn}
+use Rattle.gtfs_stop_times.specs.JoinedStopTimes.{IsTripOf, trip_rows}
+use Rattle.gtfs_merge.specs.MergedSides.{merged_parts}
 use Rattle.gtfs_merge.specs.TripRows.{with_numbers}
 use Rattle.gtfs_merge.specs.declared.rows.with_ids.IdRows.{IdRows}
 use Rattle.gtfs_merge.specs.declared.rows.frequencies.Frequencies.{Frequencies}

@@ -3,18 +3,18 @@ use Rattle.std.specs.Prelude.{◌≡◌, ⊤, ℕ, true, false, List, None, Opti
 use Rattle.std.specs.List.{All}
 use Rattle.csv.specs.Records.{Rising}
 use Rattle.gtfs_rows.specs.Content.{Content}
-use Rattle.gtfs_rows.specs.Trimmed.{first_part, second_part}
-use Rattle.gtfs_rows.specs.Views.{IsSoundParts, content_of_parts}
+use Rattle.gtfs_rows.specs.TrimmedContent.{first_part, second_part}
+use Rattle.gtfs_rows.specs.RowsInMemory.{IsSoundParts, content_of_parts}
 use Rattle.gtfs_rows.specs.declared.parts.Parts.{Parts}
-use Rattle.gtfs_stop_times.specs.Joined.{IsTripOf}
+use Rattle.gtfs_stop_times.specs.JoinedStopTimes.{IsTripOf}
 use Rattle.gtfs_merge.specs.Cutoff.{DepartsOn, is_first_day, is_second_day, merged_as}
-use Rattle.gtfs_merge.specs.Departures.{HasBoards, HasUnion}
-use Rattle.gtfs_merge.specs.Law.{SharesExactly}
+use Rattle.gtfs_merge.specs.DeparturesOfBoth.{HasBoards, HasUnion}
+use Rattle.gtfs_merge.specs.MergedDepartures.{SharesExactly}
 use Rattle.gtfs_times.specs.declared.times.Times.{Times}
 use Rattle.gtfs_merge.specs.MergedLists.{all_parts}
 use Rattle.gtfs_merge.specs.Merged.{is_too_large, zone_texts_differ}
 use Rattle.gtfs_merge.specs.Names.{AllNames, AreApart, MeetWhereJoined, in_kind, may_meet, new_id, of_side}
-use Rattle.gtfs_merge.specs.Near.{near_pairs, nearness}
+use Rattle.gtfs_merge.specs.NearStops.{near_pairs, nearness}
 use Rattle.gtfs_merge.specs.Renaming.{ids, joined_ids, name_of_id, names_a, names_b}
 use Rattle.gtfs_merge.specs.declared.kind.Kind.{Kind}
 use Rattle.gtfs_merge.specs.declared.kind.Side.{Side}

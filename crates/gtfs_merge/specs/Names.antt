@@ -1,9 +1,9 @@
 -- What ids became.
 use Rattle.std.specs.Prelude.{◌≡◌, ℕ, ◌==◌, Bool, true, false, List, length, map, zip, bytes_eq, position, slice_get, Option, Some, None, option_and_then, is_some, String, string_bytes}
 use Rattle.gtfs_merge.specs.FeedIds.{known_ids}
-use Rattle.gtfs_merge.specs.Near.{near_pairs}
+use Rattle.gtfs_merge.specs.NearStops.{near_pairs}
 use Rattle.gtfs_merge.specs.Renaming.{Renaming, lists_id, joined_ids, renaming}
-use Rattle.gtfs_merge.specs.Sides.{content_a, content_b, nearness_of, side_names}
+use Rattle.gtfs_merge.specs.MergedSides.{content_a, content_b, nearness_of, side_names}
 use Rattle.gtfs_merge.specs.declared.kind.Kind.{Kind}
 use Rattle.gtfs_merge.specs.declared.kind.Kind.TheVariants as kind
 use Rattle.gtfs_merge.specs.declared.kind.Side.{Side}

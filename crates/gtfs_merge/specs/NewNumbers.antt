@@ -1,10 +1,10 @@
 -- The numbers that the rows of both sides have in the merged feed.
 use Rattle.std.specs.Prelude.{◌≡◌, ◌<◌, ℕ, List, All, length, map, slice_index_or, slice_set, Option, None, Some}
-use Rattle.gtfs_rows.specs.Views.{text_of_number}
-use Rattle.gtfs_merge.specs.Entries.{Entry}
+use Rattle.gtfs_rows.specs.RowsInMemory.{text_of_number}
+use Rattle.gtfs_merge.specs.MergeEntries.{Entry}
 use Rattle.gtfs_merge.specs.FeedIds.{known_ids}
 use Rattle.gtfs_merge.specs.Renaming.{Renaming, renaming}
-use Rattle.gtfs_merge.specs.Sides.{side_parts, side_names, merged_ids}
+use Rattle.gtfs_merge.specs.MergedSides.{side_parts, side_names, merged_ids}
 use Rattle.gtfs_merge.specs.declared.kind.Kind.{Kind}
 use Rattle.gtfs_merge.specs.declared.kind.Side.{Side}
 use Rattle.gtfs_merge.specs.declared.kind.Side.TheVariants as side

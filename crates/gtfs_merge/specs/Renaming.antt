@@ -4,7 +4,7 @@ use Rattle.std.specs.Prelude.{ℕ, zero, suc, ◌+◌, ◌==◌, ◌&&◌, ◌||
 use Rattle.std.specs.List.{list_any, range_with_len}
 use Rattle.std.specs.Fmt.{decimal}
 use Rattle.gtfs_rows.specs.Content.{Content}
-use Rattle.gtfs_merge.specs.Same.{same_agency, same_stop, same_route, same_service, same_trip}
+use Rattle.gtfs_merge.specs.SameRows.{same_agency, same_stop, same_route, same_service, same_trip}
 use Rattle.gtfs_merge.specs.declared.kind.Kind.{Kind}
 use Rattle.gtfs_merge.specs.declared.kind.Kind.TheVariants as kind
 use Rattle.gtfs_rows.specs.Rows.{Stop, Route, StopRow, Trip}

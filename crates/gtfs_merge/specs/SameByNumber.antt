@@ -7,9 +7,9 @@ use Rattle.gtfs_rows.specs.declared.route.Route.{Route}
 use Rattle.gtfs_rows.specs.declared.stop.Stop.{Stop}
 use Rattle.gtfs_stop_times.specs.declared.stop_row.StopRow.{StopRow}
 use Rattle.gtfs_rows.specs.declared.trip.Trip.{Trip}
-use Rattle.gtfs_rows.specs.Views.{frequency_of, route_of, stop_of, stop_row_of, text_of_number, trip_of, route_ids, service_ids}
+use Rattle.gtfs_rows.specs.RowsInMemory.{frequency_of, route_of, stop_of, stop_row_of, text_of_number, trip_of, route_ids, service_ids}
 use Rattle.gtfs_merge.specs.Renaming.{Renaming, kept_as_is, route_with, stop_with, stop_row_with, trip_with}
-use Rattle.gtfs_merge.specs.Same.{same_frequency, same_stop, same_route, same_stop_row, same_text, same_trip}
+use Rattle.gtfs_merge.specs.SameRows.{same_frequency, same_stop, same_route, same_stop_row, same_text, same_trip}
 
 -- ---- stops
 

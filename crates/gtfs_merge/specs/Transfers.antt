@@ -6,11 +6,11 @@ use Rattle.std.specs.Option.{option_cmp}
 use Rattle.std.specs.Ordering.{nat_cmp}
 use Rattle.std.specs.declared.cmp.Ordering.{Ordering}
 use Rattle.gtfs_rows.specs.TransferEnds.{transfer_numbers}
-use Rattle.gtfs_rows.specs.Order.{by_key}
+use Rattle.gtfs_rows.specs.TransferOrder.{by_key}
 use Rattle.gtfs_rows.specs.declared.transfer.Transfer.{Transfer}
 use Rattle.gtfs_merge.specs.KindEntries.{AllEntries}
 use Rattle.gtfs_merge.specs.NewNumbers.{numbers_of}
-use Rattle.gtfs_merge.specs.Sides.{side_parts}
+use Rattle.gtfs_merge.specs.MergedSides.{side_parts}
 use Rattle.gtfs_merge.specs.declared.kind.Side.{Side}
 use Rattle.gtfs_merge.specs.declared.kind.Side.TheVariants as side
 use Rattle.gtfs_merge.specs.declared.sides.Sides.{Sides}

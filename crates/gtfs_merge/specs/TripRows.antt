@@ -4,16 +4,16 @@ use Rattle.std.specs.List.{flat_map}
 use Rattle.csv.specs.Records.{Rising}
 use Rattle.gtfs_rows.specs.Trips.{frequencies_by_trip, stop_rows_by_trip}
 use Rattle.gtfs_rows.specs.declared.frequency.Frequency.{Frequency}
-use Rattle.gtfs_stop_times.specs.ByTrip.{StopTimesOfTrips}
-use Rattle.gtfs_stop_times.specs.Renumbered.{renumbered_row}
+use Rattle.gtfs_stop_times.specs.StopTimesByTrip.{StopTimesOfTrips}
+use Rattle.gtfs_stop_times.specs.RenumberedRows.{renumbered_row}
 use Rattle.gtfs_stop_times.specs.declared.joined.TripOf.TheVariants as trip
 use Rattle.gtfs_stop_times.specs.declared.joined.TripOf.{TripOf}
 use Rattle.gtfs_stop_times.specs.declared.stop_row.StopRow.{StopRow}
-use Rattle.gtfs_table.specs.Parts.{parts}
-use Rattle.gtfs_merge.specs.Entries.{Entry}
+use Rattle.gtfs_table.specs.FieldOffsets.{parts}
+use Rattle.gtfs_merge.specs.MergeEntries.{Entry}
 use Rattle.gtfs_merge.specs.Headsigns.{HeadsignTable, numbers_on}
 use Rattle.gtfs_merge.specs.NewNumbers.{NewNumbers, numbers_of}
-use Rattle.gtfs_merge.specs.Sides.{side_parts}
+use Rattle.gtfs_merge.specs.MergedSides.{side_parts}
 use Rattle.gtfs_merge.specs.declared.kind.Side.{Side}
 use Rattle.gtfs_merge.specs.declared.kind.Side.TheVariants as side
 use Rattle.gtfs_merge.specs.declared.sides.Sides.{Sides}

@@ -1,11 +1,11 @@
 -- The row of A that stands for a row of B in the merged feed, its twin: the row that it is joined with, or the stop that it is near.
 use Rattle.std.specs.Prelude.{ℕ, Bool, false, if◌then◌else◌, List, [], ◌∷◌, bytes_eq, map, position, slice_index_or, Option, Some, None, option_and_then, option_map, is_some}
-use Rattle.gtfs_rows.specs.Views.{stop_ids, text_of_number}
+use Rattle.gtfs_rows.specs.RowsInMemory.{stop_ids, text_of_number}
 use Rattle.gtfs_rows.specs.declared.stop.Stop.{Stop}
-use Rattle.gtfs_nearby.specs.Near.{NearStops}
+use Rattle.gtfs_nearby.specs.NearRows.{NearStops}
 use Rattle.gtfs_merge.specs.FeedIds.{known_ids}
 use Rattle.gtfs_merge.specs.Renaming.{Renaming, renaming}
-use Rattle.gtfs_merge.specs.Sides.{side_names, is_joined_id}
+use Rattle.gtfs_merge.specs.MergedSides.{side_names, is_joined_id}
 use Rattle.gtfs_merge.specs.declared.kind.Kind.{Kind}
 use Rattle.gtfs_merge.specs.declared.kind.Kind.TheVariants as kind
 use Rattle.gtfs_merge.specs.declared.kind.Side.TheVariants as side

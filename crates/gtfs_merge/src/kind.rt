@@ -1,5 +1,5 @@
 ghost use Rattle.std.specs.Prelude.{◌≡◌};
-ghost use Rattle.gtfs_merge.specs.Report.{kind_name, side_name};
+ghost use Rattle.gtfs_merge.specs.MergeReport.{kind_name, side_name};
 
 /// A kind of id. Ids of different kinds have nothing to do with one another.
 #[derive(Clone, Copy, Debug, PartialEq, Eq)]

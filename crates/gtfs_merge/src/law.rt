@@ -3,9 +3,9 @@ ghost use Rattle.gtfs_times.specs.declared.times.Times.{Times};
 ghost use Rattle.gtfs_days.specs.declared.cut.Cut.{Cut as CutOf};
 ghost use Rattle.gtfs_rows.specs.Content.{Content};
 ghost use Rattle.gtfs_merge.specs.Cutoff.{DepartsInPart};
-ghost use Rattle.gtfs_merge.specs.Departures.{HasBoards, HasUnion};
-ghost use Rattle.gtfs_merge.specs.Law.{ForSound, IsNearness, IsSoundMerged, SharesExactly};
-ghost use Rattle.gtfs_merge.specs.Near.{nearness};
+ghost use Rattle.gtfs_merge.specs.DeparturesOfBoth.{HasBoards, HasUnion};
+ghost use Rattle.gtfs_merge.specs.MergedDepartures.{ForSound, IsNearness, IsSoundMerged, SharesExactly};
+ghost use Rattle.gtfs_merge.specs.NearStops.{nearness};
 
 /// The law of merging, which its contract states for any two sound feeds.
 /// It does nothing when it runs.

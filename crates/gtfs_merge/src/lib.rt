@@ -14,9 +14,9 @@
 //! trip is joined with its stop times and its frequencies. Every other id of the second feed gets a
 //! new name. With [`Options::near`] a stop of the second feed that lies close to one of the first,
 //! and is alike, becomes that one. With [`Options::cutoff`] the first feed serves the days before a
-//! service day, and the second those from it on. `specs/Renaming.antt` and `specs/Near.antt` say
+//! service day, and the second those from it on. `specs/Renaming.antt` and `specs/NearStops.antt` say
 //! which ids become what, `specs/Merged.antt` what the merged content is, `specs/Cutoff.antt` what
-//! a cutoff leaves, and `specs/Report.antt` what is told of a merge.
+//! a cutoff leaves, and `specs/MergeReport.antt` what is told of a merge.
 #![tactic(auto)]
 
 mod comparing;

@@ -1,7 +1,7 @@
 ghost use Rattle.std.specs.Prelude.{◌≡◌, ◌≤◌, IfErr, IfOk, IfSome, true};
 ghost use Rattle.std.specs.Cow.{cow_value};
 ghost use Rattle.gtfs_days.specs.Service.{is_service_day};
-ghost use Rattle.gtfs_rows.specs.Views.{content_of_parts};
+ghost use Rattle.gtfs_rows.specs.RowsInMemory.{content_of_parts};
 ghost use Rattle.gtfs_merge.specs.Merging.{IsMergeOf, IsRefusal, KeepsDepartures};
 
 mod cutoff;

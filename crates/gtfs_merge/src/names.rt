@@ -1,7 +1,7 @@
 ghost use Rattle.std.specs.Prelude.{◌≡◌, ◌<◌, [], IfOk, Some, length, option_map, slice_index_or};
 ghost use Rattle.gtfs_merge.specs.Merging.{AreNamesOf};
 ghost use Rattle.gtfs_merge.specs.Names.{AreKindNames, ArePairedNames, in_kind, kind_names, new_id, of_side};
-ghost use Rattle.gtfs_merge.specs.Sides.{content_a, content_b};
+ghost use Rattle.gtfs_merge.specs.MergedSides.{content_a, content_b};
 ghost use Rattle.gtfs_merge.specs.Twins.{twin_rows};
 
 mod free_ids;

@@ -1,7 +1,7 @@
 ghost use Rattle.std.specs.Prelude.{◌≡◌, ◌<◌, ◌+◌, ◌^◌, length};
-ghost use Rattle.gtfs_rows.specs.Views.{IsSoundParts};
+ghost use Rattle.gtfs_rows.specs.RowsInMemory.{IsSoundParts};
 ghost use Rattle.gtfs_merge.specs.Renaming.{ids};
-ghost use Rattle.gtfs_merge.specs.Sides.{side_parts, content_a, content_b};
+ghost use Rattle.gtfs_merge.specs.MergedSides.{side_parts, content_a, content_b};
 ghost use Rattle.gtfs_merge.specs.declared.kind.Kind.{Kind as KindOf};
 
 use crate::kind::Side;

@@ -1,5 +1,5 @@
 ghost use Rattle.std.specs.Prelude.{◌≡◌};
-ghost use Rattle.gtfs_rows.specs.Views.{content_of_parts};
+ghost use Rattle.gtfs_rows.specs.RowsInMemory.{content_of_parts};
 ghost use Rattle.gtfs_merge.specs.Merged.{zone_texts_differ};
 
 use gtfs_feed::Feed;

@@ -9,8 +9,8 @@ use Rattle.gtfs_days.specs.declared.exception.Exception.TheVariants.{Added, Remo
 use Rattle.gtfs_rows.specs.Content.{Content}
 use Rattle.gtfs_rows.specs.Departures.{Origins, is_departure}
 use Rattle.gtfs_rows.specs.Key.{Key}
-use Rattle.gtfs_rows.specs.Trimmed.{first_part, second_part}
-use Rattle.gtfs_merge.specs.Near.{report}
+use Rattle.gtfs_rows.specs.TrimmedContent.{first_part, second_part}
+use Rattle.gtfs_merge.specs.NearStops.{report}
 use Rattle.gtfs_merge_tests.proofs.WorkedMerges.{feed, lines, small, stops, trip}
 use Rattle.gtfs_merge_tests.proofs.WorkedNear.{moved}
 

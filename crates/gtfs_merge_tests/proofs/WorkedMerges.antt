@@ -8,7 +8,7 @@ use Rattle.gtfs_rows.specs.Content.{Content}
 use Rattle.gtfs_rows.specs.Rows.{Agency, Stop, Route, StopRow, Trip, Transfer}
 use Rattle.gtfs_merge.specs.Merged.{transfer_with}
 use Rattle.gtfs_merge.specs.Renaming.{names_b, never_near}
-use Rattle.gtfs_merge.specs.Report.{merge_report}
+use Rattle.gtfs_merge.specs.MergeReport.{merge_report}
 
 abbrev agency : List ℕ → Agency
 agency name = record {

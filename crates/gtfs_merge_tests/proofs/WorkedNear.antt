@@ -3,7 +3,7 @@ use Rattle.std.proofs.Common.{◌≡◌, ◌∷◌, [], codes, refl, ℕ, ℤ, p
 use Rattle.std.specs.Fmt.{digits}
 use Rattle.gtfs_rows.specs.Content.{Content}
 use Rattle.gtfs_rows.specs.Rows.{Stop}
-use Rattle.gtfs_merge.specs.Near.{report}
+use Rattle.gtfs_merge.specs.NearStops.{report}
 use Rattle.gtfs_merge_tests.proofs.WorkedMerges.{feed, lines, small, stop, stop_row, trip}
 
 -- M1 in place of S1, at a latitude in units of 10^-9 degree

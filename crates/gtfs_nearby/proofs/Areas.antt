@@ -2,18 +2,18 @@
 use Rattle.std.proofs.Common.{◌≡◌, ◌≤◌, Bool, true, false, sym, arith, nat_le, true≢false}
 use Rattle.std.specs.Prelude.{◌&&◌}
 use Rattle.std.proofs.lemmas.Bool.{and_parts, leb-true, le-leb}
-use Rattle.gtfs_nearby.specs.Areas.{area_joined, area_of, covers, has}
+use Rattle.gtfs_nearby.specs.MapAreas.{area_joined, area_of, covers, has}
 use Rattle.gtfs_nearby.specs.declared.area.Area.{Area}
-use Rattle.gtfs_nearby.specs.declared.place.Place.{Place}
+use Rattle.gtfs_nearby.specs.declared.placed_stop.PlacedStop.{PlacedStop}
 
 -- the bounds of an area, and the place between them
-record IsInside (a : Area) (p : Place) : Type 0 where
+record IsInside (a : Area) (p : PlacedStop) : Type 0 where
   south : a.south ≤ p.lat
   north : p.lat ≤ a.north
   west : a.west ≤ p.lon
   east : p.lon ≤ a.east
 
-inside : (a : Area) (p : Place) → has a p ≡ true → IsInside a p
+inside : (a : Area) (p : PlacedStop) → has a p ≡ true → IsInside a p
 inside a p e =
     let x = and_parts _ (nat_le p.lon a.east) e in
     let y = and_parts _ (nat_le a.west p.lon) x.0 in
@@ -24,10 +24,10 @@ both-so : (a b : Bool) → a ≡ true → b ≡ true → (a && b) ≡ true
 both-so true b e f = f
 both-so false b e f = absurd (true≢false (sym e))
 
-has-inside : (a : Area) (p : Place) → IsInside a p → has a p ≡ true
+has-inside : (a : Area) (p : PlacedStop) → IsInside a p → has a p ≡ true
 has-inside a p i = both-so _ _ (both-so _ _ (both-so _ _ (le-leb _ _ i.south) (le-leb _ _ i.north)) (le-leb _ _ i.west)) (le-leb _ _ i.east)
 
-pub covered : (a b : Area) (p : Place) → covers a b ≡ true → has b p ≡ true → has a p ≡ true
+pub covered : (a b : Area) (p : PlacedStop) → covers a b ≡ true → has b p ≡ true → has a p ≡ true
 covered a b p e f =
     let x = and_parts _ (nat_le b.east a.east) e in
     let y = and_parts _ (nat_le a.west b.west) x.0 in
@@ -40,15 +40,15 @@ covered a b p e f =
       east = omega (arith, leb-true b.east a.east x.1, j.east);
     })
 
-pub joined-has_first : (a b : Area) (p : Place) → has a p ≡ true → has (area_joined a b) p ≡ true
+pub joined-has_first : (a b : Area) (p : PlacedStop) → has a p ≡ true → has (area_joined a b) p ≡ true
 joined-has_first a b p e =
     let i = inside a p e in
     has-inside (area_joined a b) p (record { south = omega (arith, i.south); north = omega (arith, i.north); west = omega (arith, i.west); east = omega (arith, i.east) })
 
-pub joined-has_second : (a b : Area) (p : Place) → has b p ≡ true → has (area_joined a b) p ≡ true
+pub joined-has_second : (a b : Area) (p : PlacedStop) → has b p ≡ true → has (area_joined a b) p ≡ true
 joined-has_second a b p e =
     let i = inside b p e in
     has-inside (area_joined a b) p (record { south = omega (arith, i.south); north = omega (arith, i.north); west = omega (arith, i.west); east = omega (arith, i.east) })
 
-pub area_of-has : (p : Place) → has (area_of p) p ≡ true
+pub area_of-has : (p : PlacedStop) → has (area_of p) p ≡ true
 area_of-has p = has-inside (area_of p) p (record { south = omega arith; north = omega arith; west = omega arith; east = omega arith })

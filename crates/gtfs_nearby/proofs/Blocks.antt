@@ -1,8 +1,8 @@
 -- Blocks of listed stops: of one, and of two runs that stand one after the other.
 use Rattle.std.proofs.Common.{◌≡◌, ◌≤◌, ◌<◌, ◌+◌, ◌∙◌, ◌⊎◌, inl, inr, ℕ, true, List, sym, ap, subst, arith, length, get_or, min}
 use Rattle.std.proofs.lemmas.List.{get_or_default}
-use Rattle.gtfs_nearby.specs.Areas.{has}
-use Rattle.gtfs_nearby.specs.Index.{IsBlock, block_joined, block_of_one}
+use Rattle.gtfs_nearby.specs.MapAreas.{has}
+use Rattle.gtfs_nearby.specs.AreaTree.{IsBlock, block_joined, block_of_one}
 use Rattle.gtfs_nearby.specs.declared.block.Block.{Block}
 use Rattle.gtfs_nearby.specs.declared.listed.Listed.{Listed}
 use Rattle.gtfs_nearby.specs.declared.run.Run.{Run}

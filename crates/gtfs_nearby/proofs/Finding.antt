@@ -8,14 +8,14 @@ use Rattle.std.proofs.lemmas.Bool.Decides.{nat_tests}
 use Rattle.gtfs_field.proofs.ListFacts.{some_of}
 use Rattle.gtfs_stop_times.specs.declared.numbers.StopNo.{StopNo}
 use Rattle.gtfs_rows.specs.declared.stop.Stop.{Stop}
-use Rattle.gtfs_nearby.specs.Areas.{area_around, has}
-use Rattle.gtfs_nearby.specs.Index.{IsIndex, IsRun}
-use Rattle.gtfs_nearby.specs.Near.{is_near_row}
-use Rattle.gtfs_nearby.specs.Places.{IsPlace, has_place}
-use Rattle.gtfs_nearby.specs.Search.{IsLeastOfRun}
+use Rattle.gtfs_nearby.specs.MapAreas.{area_around, has}
+use Rattle.gtfs_nearby.specs.AreaTree.{IsIndex, IsRun}
+use Rattle.gtfs_nearby.specs.NearRows.{is_near_row}
+use Rattle.gtfs_nearby.specs.PlacedStops.{IsPlacedStop, can_be_near}
+use Rattle.gtfs_nearby.specs.TreeSearch.{IsLeastOfRun}
 use Rattle.gtfs_nearby.specs.declared.tree.Node.{Node}
 use Rattle.gtfs_nearby.specs.declared.listed.Listed.{Listed}
-use Rattle.gtfs_nearby.specs.declared.place.Place.{Place}
+use Rattle.gtfs_nearby.specs.declared.placed_stop.PlacedStop.{PlacedStop}
 use Rattle.gtfs_nearby.specs.declared.run.Run.{Run}
 use Rattle.gtfs_nearby.proofs.Places.{IsParent, near-back, near-group, near-inside, near-placed, orphan}
 
@@ -52,7 +52,7 @@ module _ {X : Type 0} (p : X → Bool) where
 
 -- ---- where a search cannot begin
 
-pub nowhere : (n : ℕ) (stops : List Stop) (y : Stop) (became : Option ℕ) → has_place y ≡ false → position (is_near_row n y became) stops ≡ None
+pub nowhere : (n : ℕ) (stops : List Stop) (y : Stop) (became : Option ℕ) → can_be_near y ≡ false → position (is_near_row n y became) stops ≡ None
 nowhere n stops y became none = none-is (is_near_row n y became) stops (λ k d h. no_test _ (λ near. sym none ∙ (near-placed n y became (get_or stops k d) near).0))
 
 pub childless : (n : ℕ) (stops : List Stop) (y : Stop) → is_some (option_map (λ m. m.0) y.parent_station) ≡ true → position (is_near_row n y None) stops ≡ None
@@ -61,7 +61,7 @@ childless n stops y has = none-is (is_near_row n y None) stops (λ k d h. no_tes
 -- ---- what a search found
 
 module _ (n : ℕ) (stops : List Stop) (xs : List Listed) (ns : List Node) (index : IsIndex stops xs ns) (y : Stop) (became parent : Option ℕ) (parents : IsParent y became parent)
-    (p : Place) (place : IsPlace y parent p) (run : Run) (is_run : IsRun xs p run) (least : ℕ) (is_least : IsLeastOfRun (area_around p (n * 1000)) xs run (length stops) least) where
+    (p : PlacedStop) (place : IsPlacedStop y parent p) (run : Run) (is_run : IsRun xs p run) (least : ℕ) (is_least : IsLeastOfRun (area_around p (n * 1000)) xs run (length stops) least) where
   at-least : least < length stops → (d : Stop) → is_near_row n y became (get_or stops least d) ≡ true
   at-least found d =
       let it = is_least.one found in

@@ -9,14 +9,14 @@ use Rattle.std.proofs.lemmas.List.Elements.{All-push, All-set}
 use Rattle.std.proofs.lemmas.List.Quantifiers.{Any-push}
 use Rattle.std.proofs.lemmas.List.Sorted.{All-permutation, Contains-permutation}
 use Rattle.gtfs_rows.specs.declared.stop.Stop.{Stop}
-use Rattle.gtfs_nearby.specs.Index.{AreListed, AreStillListed, IsListed}
-use Rattle.gtfs_nearby.specs.Places.{IsPlace, has_place}
+use Rattle.gtfs_nearby.specs.AreaTree.{AreListed, AreStillListed, IsListed}
+use Rattle.gtfs_nearby.specs.PlacedStops.{IsPlacedStop, can_be_near}
 use Rattle.gtfs_nearby.specs.declared.listed.Listed.{Listed}
 
 -- of the first stops, those with a place are listed
 pub record AreListedSoFar (stops : List Stop) (n : ℕ) (xs : List Listed) : Type 0 where
   pub listed : All (IsListed stops) xs
-  pub all : (k : ℕ) (d : Stop) → k < n → has_place (get_or stops k d) ≡ true → Any (λ x. x.number ≡ k) xs
+  pub all : (k : ℕ) (d : Stop) → k < n → can_be_near (get_or stops k d) ≡ true → Any (λ x. x.number ≡ k) xs
 
 pub none-listed : (stops : List Stop) → AreListedSoFar stops 0 []
 none-listed stops = record { listed = λ k d h. absurd (omega arith); all = λ k d h. absurd (omega arith) }
@@ -30,11 +30,11 @@ any-kept xs x k it =
     (it.0, it.1, omega (arith, length-append xs (x ∷ []), it.2), at ∙ it.3, it.4)
 
 pub one-listed : (stops : List Stop) (n : ℕ) (xs ys : List Listed) (s : Stop) (x : Listed) → n < length stops → s ≡ get_or stops n s → x.number ≡ n
-    → IsPlace s (option_map (λ m. m.0) s.parent_station) x.place → ys ≡ xs ++ x ∷ [] → AreListedSoFar stops n xs → AreListedSoFar stops (n + 1) ys
+    → IsPlacedStop s (option_map (λ m. m.0) s.parent_station) x.place → ys ≡ xs ++ x ∷ [] → AreListedSoFar stops n xs → AreListedSoFar stops (n + 1) ys
 one-listed stops n xs ys s x within is number place new so_far = record {
   listed = subst (All (IsListed stops)) (sym new) (All-push (IsListed stops) xs x so_far.listed (record {
     within = omega (arith, number, within);
-    place = λ d. subst (λ t. IsPlace t (option_map (λ m. m.0) t.parent_station) x.place) (is ∙ get_or_default stops n s d within ∙ ap (λ k. get_or stops k d) (sym number)) place;
+    place = λ d. subst (λ t. IsPlacedStop t (option_map (λ m. m.0) t.parent_station) x.place) (is ∙ get_or_default stops n s d within ∙ ap (λ k. get_or stops k d) (sym number)) place;
   }));
   all = λ k d h has_it. elim (cases n k h) as (λ w. Any (λ y. y.number ≡ k) ys) [
     | inl l ↦ subst (Any (λ y. y.number ≡ k)) (sym new) (any-kept xs x k (so_far.all k d l has_it))
@@ -42,12 +42,12 @@ one-listed stops n xs ys s x within is number place new so_far = record {
   ];
 }
 
-pub none-more : (stops : List Stop) (n : ℕ) (xs ys : List Listed) (s : Stop) → n < length stops → s ≡ get_or stops n s → has_place s ≡ false → ys ≡ xs → AreListedSoFar stops n xs → AreListedSoFar stops (n + 1) ys
+pub none-more : (stops : List Stop) (n : ℕ) (xs ys : List Listed) (s : Stop) → n < length stops → s ≡ get_or stops n s → can_be_near s ≡ false → ys ≡ xs → AreListedSoFar stops n xs → AreListedSoFar stops (n + 1) ys
 none-more stops n xs ys s within is none same so_far = record {
   listed = subst (All (IsListed stops)) (sym same) so_far.listed;
   all = λ k d h has_it. elim (cases n k h) as (λ w. Any (λ y. y.number ≡ k) ys) [
     | inl l ↦ subst (Any (λ y. y.number ≡ k)) (sym same) (so_far.all k d l has_it)
-    | inr e ↦ absurd (true≢false (sym has_it ∙ ap has_place (sym (is ∙ get_or_default stops n s d within ∙ ap (λ j. get_or stops j d) (sym e))) ∙ none))
+    | inr e ↦ absurd (true≢false (sym has_it ∙ ap can_be_near (sym (is ∙ get_or_default stops n s d within ∙ ap (λ j. get_or stops j d) (sym e))) ∙ none))
   ];
 }
 
@@ -74,8 +74,8 @@ still_listed-ordered xs ys zs n d x within number place written still stops are 
     within = let old = before.listed n d within in subst (λ m. m < length stops) (sym number) old.within;
     place = λ e.
         let old = before.listed n d within in
-        subst (λ p. IsPlace (get_or stops x.number e) (option_map (λ m. m.0) (get_or stops x.number e).parent_station) p) (sym place)
-        (subst (λ j. IsPlace (get_or stops j e) (option_map (λ m. m.0) (get_or stops j e).parent_station) (get_or ys n d).place) (sym number) (old.place e));
+        subst (λ p. IsPlacedStop (get_or stops x.number e) (option_map (λ m. m.0) (get_or stops x.number e).parent_station) p) (sym place)
+        (subst (λ j. IsPlacedStop (get_or stops j e) (option_map (λ m. m.0) (get_or stops j e).parent_station) (get_or ys n d).place) (sym number) (old.place e));
   }) before.listed;
   all = λ k e h has_it. let it = before.all k e h has_it in elim (same_or_not it.0) as (λ w. Any (λ y. y.number ≡ k) (set ys n x)) [
     | inl same ↦ (

@@ -14,20 +14,20 @@ use Rattle.std.proofs.lemmas.Slice.Eq.{bytes_eq-Decides}
 use Rattle.gtfs_field.proofs.OrderingFacts.{tied_first, tied_second}
 use Rattle.gtfs_field.proofs.TextOrderFacts.{texts_exact, texts_total}
 use Rattle.gtfs_field.specs.TextOrder.{text_cmp}
-use Rattle.gtfs_rows.specs.Choices.{location_code}
+use Rattle.gtfs_rows.specs.RowChoices.{location_code}
 use Rattle.gtfs_stop_times.specs.declared.numbers.StopNo.{StopNo}
 use Rattle.gtfs_rows.specs.declared.stop.Stop.{Stop}
-use Rattle.gtfs_nearby.specs.Areas.{area_around, has}
-use Rattle.gtfs_nearby.specs.Near.{are_close, is_near_row, is_same_parent, same_given_name}
-use Rattle.gtfs_nearby.specs.Places.{AreUnitsOf, IsPlace, group_cmp, has_place}
-use Rattle.gtfs_nearby.specs.declared.place.Place.{Place}
+use Rattle.gtfs_nearby.specs.MapAreas.{area_around, has}
+use Rattle.gtfs_nearby.specs.NearRows.{are_close, is_near_row, is_same_parent, same_given_name}
+use Rattle.gtfs_nearby.specs.PlacedStops.{AreUnitsOf, IsPlacedStop, group_cmp, can_be_near}
+use Rattle.gtfs_nearby.specs.declared.placed_stop.PlacedStop.{PlacedStop}
 
 -- ---- places in order
 
 pub group_total : IsTotalOrder group_cmp
 group_total = then_total
-    (then_total (on_total (λ (p : Place). p.name.now) texts_total) (on_total (λ (p : Place). p.kind) nat_cmp_total))
-    (on_total (λ (p : Place). option_map (λ n. n.0) p.parent) (options_total nat_cmp_total))
+    (then_total (on_total (λ (p : PlacedStop). p.name.now) texts_total) (on_total (λ (p : PlacedStop). p.kind) nat_cmp_total))
+    (on_total (λ (p : PlacedStop). option_map (λ n. n.0) p.parent) (options_total nat_cmp_total))
 
 -- ---- one part after the other
 
@@ -82,7 +82,7 @@ close-is n (Some z) (Some w) a b e f = ap (λ d. nat_le (unsigned_abs d) (n * 10
 
 -- ---- near stops
 
-inside-is : (p q : Place) (r : ℕ) → nat_le (p.lat - r) q.lat && nat_le q.lat (p.lat + r) ≡ true → nat_le (p.lon - r) q.lon && nat_le q.lon (p.lon + r) ≡ true → has (area_around p r) q ≡ true
+inside-is : (p q : PlacedStop) (r : ℕ) → nat_le (p.lat - r) q.lat && nat_le q.lat (p.lat + r) ≡ true → nat_le (p.lon - r) q.lon && nat_le q.lon (p.lon + r) ≡ true → has (area_around p r) q ≡ true
 inside-is p q r e f =
     let lat = and_parts (nat_le (p.lat - r) q.lat) (nat_le q.lat (p.lat + r)) e in
     let lon = and_parts (nat_le (p.lon - r) q.lon) (nat_le q.lon (p.lon + r)) f in
@@ -129,8 +129,8 @@ parent-none y o u has f = record {
     by None = refl
     by (Some a) = refl
 
-module _ (n : ℕ) (y : Stop) (became parent : Option ℕ) (parents : IsParent y became parent) (p : Place) (of_y : IsPlace y parent p) (x : Stop) (q : Place)
-    (of_x : IsPlace x (option_map (λ m. m.0) x.parent_station) q) where
+module _ (n : ℕ) (y : Stop) (became parent : Option ℕ) (parents : IsParent y became parent) (p : PlacedStop) (of_y : IsPlacedStop y parent p) (x : Stop) (q : PlacedStop)
+    (of_x : IsPlacedStop x (option_map (λ m. m.0) x.parent_station) q) where
   same-parents : is_same_parent (option_map (λ m. m.0) x.parent_station) (option_map (λ m. m.0) y.parent_station) became ≡ option_eq nat_eq (option_map (λ m. m.0) q.parent) (option_map (λ m. m.0) p.parent)
   same-parents = parents.same (option_map (λ m. m.0) x.parent_station) ∙ (λ i. option_eq nat_eq (sym of_x.parent i) (sym of_y.parent i))
 
@@ -174,7 +174,7 @@ near-there n None u e = absurd (true≢false (sym e))
 near-there n (Some a) None e = absurd (true≢false (sym e))
 near-there n (Some a) (Some b) e = (refl, refl)
 
-pub near-placed : (n : ℕ) (y : Stop) (became : Option ℕ) (x : Stop) → is_near_row n y became x ≡ true → (has_place y ≡ true) × (has_place x ≡ true)
+pub near-placed : (n : ℕ) (y : Stop) (became : Option ℕ) (x : Stop) → is_near_row n y became x ≡ true → (can_be_near y ≡ true) × (can_be_near x ≡ true)
 near-placed n y became x near =
     let parts = near-parts n y became x near in
     let name = near-named y.stop_name x.stop_name parts.name in

@@ -7,16 +7,16 @@ use Rattle.std.specs.declared.cmp.Ordering.{Ordering}
 use Rattle.std.specs.declared.cmp.Ordering.TheVariants.{Less, Equal, Greater}
 use Rattle.std.proofs.lemmas.List.Sorted.{IsPartitionedBy-leb, IsPartitionedBy-ltb, searchable_from_sorted}
 use Rattle.gtfs_field.proofs.ListFacts.{some_of}
-use Rattle.gtfs_nearby.specs.Index.{IsRun, listed_cmp}
-use Rattle.gtfs_nearby.specs.Places.{group_cmp}
+use Rattle.gtfs_nearby.specs.AreaTree.{IsRun, listed_cmp}
+use Rattle.gtfs_nearby.specs.PlacedStops.{group_cmp}
 use Rattle.gtfs_nearby.specs.declared.listed.Listed.{Listed}
-use Rattle.gtfs_nearby.specs.declared.place.Place.{Place}
+use Rattle.gtfs_nearby.specs.declared.placed_stop.PlacedStop.{PlacedStop}
 use Rattle.gtfs_nearby.proofs.Places.{group_total}
 
-abbrev pub is_before : Place → Listed → Bool
+abbrev pub is_before : PlacedStop → Listed → Bool
 is_before p x = is_lt (group_cmp x.place p)
 
-abbrev pub is_up_to : Place → Listed → Bool
+abbrev pub is_up_to : PlacedStop → Listed → Bool
 is_up_to p x = is_le (group_cmp x.place p)
 
 pub listed_total : IsTotalOrder listed_cmp
@@ -30,7 +30,7 @@ first-by Greater s e = refl
 by-group : (xs : List Listed) → IsSorted listed_cmp xs → IsSorted (λ x y. group_cmp x.place y.place) xs
 by-group xs up k d low high = first-by _ _ (up k d low high)
 
-ranks : (p : Place) (xs : List Listed) → IsSorted listed_cmp xs → IsNonDecreasingBy (λ x. ordering_index (group_cmp x.place p)) xs
+ranks : (p : PlacedStop) (xs : List Listed) → IsSorted listed_cmp xs → IsNonDecreasingBy (λ x. ordering_index (group_cmp x.place p)) xs
 ranks p xs up = searchable_from_sorted group_total (λ x. x.place) xs p (by-group xs up)
 
 lt-index : (o : Ordering) → ltb (ordering_index o) 1 ≡ is_lt o
@@ -43,10 +43,10 @@ le-index Less = refl
 le-index Equal = refl
 le-index Greater = refl
 
-pub before-parted : (p : Place) (xs : List Listed) → IsSorted listed_cmp xs → IsPartitionedBy (is_before p) xs
+pub before-parted : (p : PlacedStop) (xs : List Listed) → IsSorted listed_cmp xs → IsPartitionedBy (is_before p) xs
 before-parted p xs up = subst (λ t. IsPartitionedBy t xs) (λ i x. lt-index (group_cmp x.place p) i) (IsPartitionedBy-ltb (λ x. ordering_index (group_cmp x.place p)) xs 1 (ranks p xs up))
 
-pub up_to-parted : (p : Place) (xs : List Listed) → IsSorted listed_cmp xs → IsPartitionedBy (is_up_to p) xs
+pub up_to-parted : (p : PlacedStop) (xs : List Listed) → IsSorted listed_cmp xs → IsPartitionedBy (is_up_to p) xs
 up_to-parted p xs up = subst (λ t. IsPartitionedBy t xs) (λ i x. le-index (group_cmp x.place p) i) (IsPartitionedBy-leb (λ x. ordering_index (group_cmp x.place p)) xs 1 (ranks p xs up))
 
 both-sides : (o : Ordering) → is_lt o ≡ true → is_le o ≡ false → ⊥
@@ -62,7 +62,7 @@ tied Less e f = absurd (true≢false e)
 tied Equal e f = refl
 tied Greater e f = absurd (true≢false (sym f))
 
-module _ (p : Place) (xs : List Listed) (from until : ℕ) (from_within : from ≤ length xs) (until_within : until ≤ length xs)
+module _ (p : PlacedStop) (xs : List Listed) (from until : ℕ) (from_within : from ≤ length xs) (until_within : until ≤ length xs)
     (first : IsPartitionPoint (λ x. is_before p x ≡ true) (λ x. is_before p x ≡ false) xs from)
     (last : IsPartitionPoint (λ x. is_up_to p x ≡ true) (λ x. is_up_to p x ≡ false) xs until) where
   pub run-is : IsRun xs p (record { from = from; until = until })

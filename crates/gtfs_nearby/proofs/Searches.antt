@@ -1,9 +1,9 @@
 -- The least number of stops of a run inside an area: of one stop, of a node, of one run and then of another.
 use Rattle.std.proofs.Common.{◌≡◌, ◌≤◌, ◌<◌, ◌+◌, ◌-◌, ◌∙◌, ◌⊎◌, inl, inr, ℕ, true, List, refl, sym, ap, subst, arith, length, get_or, min, max}
 use Rattle.std.proofs.lemmas.List.{get_or_default}
-use Rattle.gtfs_nearby.specs.Areas.{has}
-use Rattle.gtfs_nearby.specs.Index.{IsTree, reach, shared}
-use Rattle.gtfs_nearby.specs.Search.{IsLeastOfRun}
+use Rattle.gtfs_nearby.specs.MapAreas.{has}
+use Rattle.gtfs_nearby.specs.AreaTree.{IsTree, reach, shared}
+use Rattle.gtfs_nearby.specs.TreeSearch.{IsLeastOfRun}
 use Rattle.gtfs_nearby.specs.declared.area.Area.{Area}
 use Rattle.gtfs_nearby.specs.declared.listed.Listed.{Listed}
 use Rattle.gtfs_nearby.specs.declared.run.Run.{Run}

@@ -2,7 +2,7 @@
 use Rattle.std.proofs.Common.{◌≡◌, ◌≤◌, ◌<◌, ◌+◌, ◌-◌, ◌∙◌, ◌++◌, ◌∷◌, [], ◌⊎◌, inl, inr, ℕ, suc, List, refl, sym, ap, subst, arith, length, get_or, map}
 use Rattle.std.proofs.lemmas.List.{get_or-map, get_or_append_left, length-append, length-map, map-append}
 use Rattle.std.proofs.Math.Seq.{get_or-append_seam}
-use Rattle.gtfs_nearby.specs.Index.{AreEven, IsBlock, IsNode, IsTree, last_but_one, last_of, node_joined, reach}
+use Rattle.gtfs_nearby.specs.AreaTree.{AreEven, IsBlock, IsNode, IsTree, last_but_one, last_of, node_joined, reach}
 use Rattle.gtfs_nearby.specs.declared.block.Block.{Block}
 use Rattle.gtfs_nearby.specs.declared.listed.Listed.{Listed}
 use Rattle.gtfs_nearby.specs.declared.run.Run.{Run}

@@ -1,5 +1,5 @@
-pub mod Near
-pub mod Places
-pub mod Areas
-pub mod Index
-pub mod Search
+pub mod AreaTree
+pub mod MapAreas
+pub mod NearRows
+pub mod PlacedStops
+pub mod TreeSearch

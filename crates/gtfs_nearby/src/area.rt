@@ -1,7 +1,7 @@
 ghost use Rattle.std.specs.Prelude.{◌≡◌, ◌≤◌, ◌+◌, ◌*◌};
-ghost use Rattle.gtfs_nearby.specs.Areas.{area_around, area_joined, area_of, covers, has, meets};
+ghost use Rattle.gtfs_nearby.specs.MapAreas.{area_around, area_joined, area_of, covers, has, meets};
 
-use crate::place::Place;
+use crate::placed_stop::PlacedStop;
 
 // All places between two latitudes and two longitudes, in units of 10^-9 degree above -180 degrees.
 #[derive(Clone, Copy)]
@@ -14,7 +14,7 @@ pub(crate) struct Area {
 
 impl Area {
     // All places up to so many units away, which is a square.
-    pub fn around(place: &Place<'_>, reach: u64) -> Area
+    pub fn around(place: &PlacedStop<'_>, reach: u64) -> Area
         requires lat { place.now.lat ≤ 360_000_000_000 }
         requires lon { place.now.lon ≤ 360_000_000_000 }
         requires reach { reach ≤ 5_000_000_000_000 }
@@ -29,7 +29,7 @@ impl Area {
     }
 
     // The one place.
-    pub fn of(place: &Place<'_>) -> Area
+    pub fn of(place: &PlacedStop<'_>) -> Area
         ensures { result ≡ area_of place.now }
     {
         Area {
@@ -52,7 +52,7 @@ impl Area {
         }
     }
 
-    pub fn has(&self, place: &Place<'_>) -> bool
+    pub fn has(&self, place: &PlacedStop<'_>) -> bool
         ensures { result ≡ has self.now place.now }
     {
         self.south <= place.lat

@@ -1,5 +1,5 @@
 ghost use Rattle.std.specs.Prelude.{◌≡◌, ◌<◌, ◌≤◌, length};
-ghost use Rattle.gtfs_nearby.specs.Index.{IsBlock, block_joined, block_of_one};
+ghost use Rattle.gtfs_nearby.specs.AreaTree.{IsBlock, block_joined, block_of_one};
 
 use crate::area::Area;
 use crate::listed::Listed;

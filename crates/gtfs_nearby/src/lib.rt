@@ -4,14 +4,14 @@
 //! of them that is near a stop of another one: of its type, name and parent, and at most so
 //! many millionths of a degree away.
 //!
-//! When stops are near stands in `specs/Near.antt`.
+//! When stops are near stands in `specs/NearRows.antt`.
 #![tactic(auto)]
 
 mod area;
 mod block;
 mod listed;
 mod nearby;
-mod place;
+mod placed_stop;
 mod run;
 mod search;
 mod tree;

@@ -1,8 +1,8 @@
 ghost use Rattle.std.specs.Prelude.{◌≡◌, IfOk};
 ghost use Rattle.std.specs.List.Sorted.{IsPermutation, IsSorted};
-ghost use Rattle.gtfs_nearby.specs.Index.{AreListed, AreStillListed, listed_cmp};
+ghost use Rattle.gtfs_nearby.specs.AreaTree.{AreListed, AreStillListed, listed_cmp};
 
-use crate::place::{Place, group_order};
+use crate::placed_stop::{PlacedStop, group_order};
 use gtfs_field::OutOfMemory;
 use gtfs_rows::Stop;
 use std::alloc::Global;
@@ -11,7 +11,7 @@ use std::cmp::Ordering;
 // A stop by its number, with its place.
 #[derive(Clone, Copy)]
 pub(crate) struct Listed<'a> {
-    pub place: Place<'a>,
+    pub place: PlacedStop<'a>,
     // Rises along a curve on which neighbours mostly stand together: the bits of the ranks by
     // latitude and by longitude, in turn. With ranks in place of coordinates, the edge of an area
     // runs through few leaves wherever stops lie: of n, about as many as the root of n at most.
@@ -38,7 +38,7 @@ fn by_number<'a>(alloc: Global, stops: &'a [Stop]) -> Result<Vec<Listed<'a>>, Ou
 {
     let mut listed = Vec::with_capacity(alloc, stops.len())?;
     for (number, stop) in stops.iter().enumerate() {
-        if let Some(place) = Place::of(stop, stop.parent_station) {
+        if let Some(place) = PlacedStop::of(stop, stop.parent_station) {
             listed.push(Listed {
                 place,
                 order: 0,
@@ -72,11 +72,11 @@ fn ranked_by_lon(mut listed: Vec<Listed<'_>>) -> Vec<Listed<'_>>
 }
 
 // Places on one latitude by longitude: the ranks of a line of stops rise together.
-fn by_lat(a: &Place<'_>, b: &Place<'_>) -> Ordering {
+fn by_lat(a: &PlacedStop<'_>, b: &PlacedStop<'_>) -> Ordering {
     a.lat.cmp(&b.lat).then(a.lon.cmp(&b.lon))
 }
 
-fn by_lon(a: &Place<'_>, b: &Place<'_>) -> Ordering {
+fn by_lon(a: &PlacedStop<'_>, b: &PlacedStop<'_>) -> Ordering {
     a.lon.cmp(&b.lon).then(a.lat.cmp(&b.lat))
 }
 

@@ -1,9 +1,9 @@
 ghost use Rattle.std.specs.Prelude.{◌≡◌, IfOk, option_map, position};
-ghost use Rattle.gtfs_nearby.specs.Near.{is_near_row};
+ghost use Rattle.gtfs_nearby.specs.NearRows.{is_near_row};
 
 use crate::area::Area;
 use crate::listed::{Listed, listed_stops};
-use crate::place::Place;
+use crate::placed_stop::PlacedStop;
 use crate::run::Run;
 use crate::search::least_of_run;
 use crate::tree::{Node, tree_of};
@@ -26,8 +26,8 @@ pub struct Nearby<'a> {
 }
 
 impl<'a> Model for Nearby<'a> {
-    ghost use Rattle.gtfs_nearby.specs.Near.{NearStops};
-    ghost use Rattle.gtfs_nearby.specs.Index.{IsIndex};
+    ghost use Rattle.gtfs_nearby.specs.NearRows.{NearStops};
+    ghost use Rattle.gtfs_nearby.specs.AreaTree.{IsIndex};
 
     ghost Value = { NearStops };
 
@@ -73,7 +73,7 @@ impl<'a> Nearby<'a> {
             Some(_) => Some(parent?),
             None => None,
         };
-        let place = Place::of(row, parent)?;
+        let place = PlacedStop::of(row, parent)?;
         let run = Run::of(&self.listed, &place);
         let area = Area::around(&place, u64::from(self.near) * 1000);
         let count = self.stops.len();

@@ -1,9 +1,9 @@
 ghost use Rattle.std.specs.Prelude.{◌≡◌, ◌-◌};
 ghost use Rattle.std.specs.List.Sorted.{IsSorted};
-ghost use Rattle.gtfs_nearby.specs.Index.{IsRun, listed_cmp, shared};
+ghost use Rattle.gtfs_nearby.specs.AreaTree.{IsRun, listed_cmp, shared};
 
 use crate::listed::Listed;
-use crate::place::{Place, group_order};
+use crate::placed_stop::{PlacedStop, group_order};
 
 // Listed stops that stand one after the other: their indices from the first to before the last.
 #[derive(Clone, Copy)]
@@ -14,7 +14,7 @@ pub(crate) struct Run {
 
 impl Run {
     // Those that have the name, type and parent of this place.
-    pub fn of(listed: &[Listed<'_>], place: &Place<'_>) -> Run
+    pub fn of(listed: &[Listed<'_>], place: &PlacedStop<'_>) -> Run
         requires { IsSorted listed_cmp listed.now }
         ensures { IsRun listed.now place.now result }
     {

@@ -1,6 +1,6 @@
 ghost use Rattle.std.specs.Prelude.{◌≡◌, ◌≤◌, ◌<◌, ◌-◌, IfSome, IfNone, length};
-ghost use Rattle.gtfs_nearby.specs.Index.{IsBlock, IsTree, shared};
-ghost use Rattle.gtfs_nearby.specs.Search.{IsLeastOfRun};
+ghost use Rattle.gtfs_nearby.specs.AreaTree.{IsBlock, IsTree, shared};
+ghost use Rattle.gtfs_nearby.specs.TreeSearch.{IsLeastOfRun};
 
 use crate::area::Area;
 use crate::listed::Listed;

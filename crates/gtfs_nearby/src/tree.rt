@@ -1,5 +1,5 @@
 ghost use Rattle.std.specs.Prelude.{◌≡◌, ◌<◌, ◌≤◌, ◌+◌, IfOk, OnOk, length};
-ghost use Rattle.gtfs_nearby.specs.Index.{AreEven, IsJoinedIfAny, IsTree, node_joined};
+ghost use Rattle.gtfs_nearby.specs.AreaTree.{AreEven, IsJoinedIfAny, IsTree, node_joined};
 
 use crate::block::Block;
 use crate::listed::Listed;

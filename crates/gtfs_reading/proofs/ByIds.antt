@@ -14,9 +14,9 @@ use Rattle.gtfs_field.specs.TextOrder.{text_cmp}
 use Rattle.gtfs_table.specs.Rows.{is_row, records_in, rows}
 use Rattle.gtfs_table.specs.Tables.{Dataset}
 use Rattle.gtfs_table.specs.declared.file.File.{File}
-use Rattle.gtfs_schema.specs.Rows.{text_in}
+use Rattle.gtfs_schema.specs.RowConditions.{text_in}
 use Rattle.gtfs_schema.specs.steps.Ids.{first_rows, ids_of, rows_by_number, FirstRows}
-use Rattle.gtfs_rows.specs.Order.{by_key}
+use Rattle.gtfs_rows.specs.TransferOrder.{by_key}
 use Rattle.gtfs_rows.proofs.KeyedRows.{no_entries}
 
 -- ---- a function of the values

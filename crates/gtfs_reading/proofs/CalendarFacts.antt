@@ -16,8 +16,8 @@ use Rattle.gtfs_schema.specs.declared.code.Code.TheVariants as code
 use Rattle.gtfs_schema.specs.Calendars.{exception_in, first_service_row, service_rows, week_in}
 use Rattle.gtfs_schema.specs.Columns.{Column, id, date, refused, required, column_named}
 use Rattle.gtfs_schema.specs.Problems.{Passes, kept}
-use Rattle.gtfs_schema.specs.Rows.{amount_in, text_in, word_in}
-use Rattle.gtfs_schema.specs.Values.{as_amount, if_both, is_word, readable}
+use Rattle.gtfs_schema.specs.RowConditions.{amount_in, text_in, word_in}
+use Rattle.gtfs_schema.specs.FieldValues.{as_amount, if_both, is_word, readable}
 use Rattle.gtfs_schema.proofs.NamedFacts.{text_turned}
 use Rattle.gtfs_schema.proofs.ReadFacts.{amount_some, read_as_there, stands}
 use Rattle.gtfs_rows.proofs.SameElements.{pairs-map}

@@ -18,13 +18,13 @@ use Rattle.gtfs_table.specs.declared.file.File.TheVariants as file
 use Rattle.gtfs_schema.specs.Columns.{id, required}
 use Rattle.gtfs_schema.specs.IdNumbers.{first_rows, ids_by_bytes}
 use Rattle.gtfs_schema.specs.Problems.{Passes}
-use Rattle.gtfs_schema.specs.Rows.{text_in}
+use Rattle.gtfs_schema.specs.RowConditions.{text_in}
 use Rattle.gtfs_schema.specs.declared.network_ids.NetworkIds.{NetworkIds}
 use Rattle.gtfs_schema.specs.steps.FeedIds.{AreNetworkIdsOf}
 use Rattle.gtfs_schema.specs.steps.Ids.{ids_of}
 use Rattle.gtfs_schema.proofs.ReadFacts.{id_there, stands}
-use Rattle.gtfs_rows.specs.Order.{by_key}
-use Rattle.gtfs_rows.specs.Reading.{content_of, stop_in, text_at, trip_in}
+use Rattle.gtfs_rows.specs.TransferOrder.{by_key}
+use Rattle.gtfs_rows.specs.ContentRead.{content_of, stop_in, text_at, trip_in}
 use Rattle.gtfs_rows.proofs.Held.{text_antisymmetric}
 use Rattle.gtfs_reading.specs.StopTimeLists.{content_stop_ids}
 use Rattle.gtfs_reading.proofs.Keyed.{by_key_made, keys_are, keys_ascend, values_are}

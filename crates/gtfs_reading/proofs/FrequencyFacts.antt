@@ -16,14 +16,14 @@ use Rattle.gtfs_table.specs.Tables.{Dataset}
 use Rattle.gtfs_table.specs.declared.file.File.TheVariants as file
 use Rattle.gtfs_schema.specs.Columns.{id, refused, required, time}
 use Rattle.gtfs_schema.specs.Problems.{Passes}
-use Rattle.gtfs_schema.specs.Rows.{text_in, value_in, word_in}
-use Rattle.gtfs_schema.specs.Values.{as_amount, value_of_count, is_word}
+use Rattle.gtfs_schema.specs.RowConditions.{text_in, value_in, word_in}
+use Rattle.gtfs_schema.specs.FieldValues.{as_amount, value_of_count, is_word}
 use Rattle.gtfs_schema.proofs.ReadFacts.{amount_some, read_as_there, stands}
 use Rattle.gtfs_rows.specs.declared.frequency.Frequency.{Frequency as FrequencyRow}
-use Rattle.gtfs_rows.specs.Order.{by_key}
-use Rattle.gtfs_rows.specs.Reading.{frequency_in, rows_of}
+use Rattle.gtfs_rows.specs.TransferOrder.{by_key}
+use Rattle.gtfs_rows.specs.ContentRead.{frequency_in, rows_of}
 use Rattle.gtfs_rows.specs.Rows.{Frequency}
-use Rattle.gtfs_rows.specs.Views.{frequency_of}
+use Rattle.gtfs_rows.specs.RowsInMemory.{frequency_of}
 use Rattle.gtfs_rows.proofs.SameElements.{pairs-map}
 use Rattle.gtfs_reading.specs.CalendarRows.{rows_with}
 use Rattle.gtfs_reading.proofs.CalendarFacts.{rows_named}

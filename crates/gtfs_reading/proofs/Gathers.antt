@@ -16,20 +16,20 @@ use Rattle.csv.specs.Records.{Rising}
 use Rattle.csv.proofs.RecordFacts.{rising-more}
 use Rattle.gtfs_field.proofs.NumberFacts.{number_itself}
 use Rattle.gtfs_field.proofs.OrderingFacts.{first_at_most as lower-trip}
-use Rattle.gtfs_table.specs.Parts.{parts}
+use Rattle.gtfs_table.specs.FieldOffsets.{parts}
 use Rattle.gtfs_table.specs.Tables.{Dataset}
 use Rattle.gtfs_table.specs.declared.file.File.TheVariants as file
 use Rattle.gtfs_schema.specs.Problems.{Passes}
-use Rattle.gtfs_schema.specs.Rows.{word_in}
+use Rattle.gtfs_schema.specs.RowConditions.{word_in}
 use Rattle.gtfs_stop_times.specs.declared.stop_time.StopTime.{StopTime}
 use Rattle.gtfs_rules.specs.StopTimes.{AreStopTimes, SaysStopTime, stop_time_cmp}
-use Rattle.gtfs_rows.specs.Reading.{content_of, stop_row_in}
+use Rattle.gtfs_rows.specs.ContentRead.{content_of, stop_row_in}
 use Rattle.gtfs_rows.specs.Rows.{StopRow as StopRowOf}
 use Rattle.gtfs_stop_times.specs.declared.stop_row.StopRow.{StopRow}
 use Rattle.gtfs_reading.specs.FirstNamed.{each_once}
-use Rattle.gtfs_reading.specs.Gathering.{AreGathered, IsEmptyFor, by_trip, starts_of_all}
+use Rattle.gtfs_reading.specs.GatheredStopTimes.{AreGathered, IsEmptyFor, by_trip, starts_of_all}
 use Rattle.gtfs_reading.specs.StopTimeDraft.{lists_with}
-use Rattle.gtfs_stop_times.specs.Headsigned.{with_headsign_at}
+use Rattle.gtfs_stop_times.specs.HeadsignedRows.{with_headsign_at}
 use Rattle.gtfs_rows.specs.Headsigns.{AddsOnly, AreDistinct, KeepsHeadsigns, NamesHeadsign}
 use Rattle.gtfs_reading.specs.HeadsignIndex.{with_headsign}
 use Rattle.gtfs_reading.specs.StopTimeLists.{AreStopTimesOf, content_stop_ids, has_headsign, is_number}

@@ -19,17 +19,17 @@ use Rattle.gtfs_schema.specs.Columns.{Column, id, refused, column_named}
 use Rattle.gtfs_schema.specs.KeyRules.{is_known}
 use Rattle.gtfs_schema.specs.Problems.{Passes, kept}
 use Rattle.gtfs_schema.specs.ReadRules.{IsReadAs}
-use Rattle.gtfs_schema.specs.Reads.{word_of}
+use Rattle.gtfs_schema.specs.ReadFields.{word_of}
 use Rattle.gtfs_schema.specs.References.{references}
-use Rattle.gtfs_schema.specs.Rows.{is_file, row_with, text_in, value_in, word_in}
-use Rattle.gtfs_schema.specs.Values.{as_word, has_control, readable}
+use Rattle.gtfs_schema.specs.RowConditions.{is_file, row_with, text_in, value_in, word_in}
+use Rattle.gtfs_schema.specs.FieldValues.{as_word, has_control, readable}
 use Rattle.gtfs_schema.specs.steps.Ids.{FirstRows, first_row_with, first_rows, ids_of, number_with, rows_by_number}
 use Rattle.gtfs_schema.proofs.ReadFacts.{passes_read}
 use Rattle.std.proofs.lemmas.Slice.Eq.{bytes_eq-Decides}
 use Rattle.gtfs_table.proofs.BlankFacts.{no_text}
-use Rattle.gtfs_rows.specs.Order.{by_key}
-use Rattle.gtfs_rows.specs.Reading.{text_at}
-use Rattle.gtfs_rows.specs.Views.{is_number_within, text_of_number}
+use Rattle.gtfs_rows.specs.TransferOrder.{by_key}
+use Rattle.gtfs_rows.specs.ContentRead.{text_at}
+use Rattle.gtfs_rows.specs.RowsInMemory.{is_number_within, text_of_number}
 use Rattle.gtfs_reading.proofs.ByIds.{by_key_made, ids_read, rows_are}
 
 -- ---- an id that is there

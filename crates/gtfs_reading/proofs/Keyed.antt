@@ -11,7 +11,7 @@ use Rattle.std.proofs.lemmas.List.Elements.{All-cons, All-head, All-nil, All-tai
 use Rattle.std.proofs.lemmas.List.Kept.{AllPairs-cons}
 use Rattle.gtfs_field.proofs.OrderingFacts.{less_so as less-from}
 use Rattle.gtfs_field.proofs.TestFacts.{first_so as first_true, second_so as second_true}
-use Rattle.gtfs_rows.specs.Order.{by_key}
+use Rattle.gtfs_rows.specs.TransferOrder.{by_key}
 use Rattle.gtfs_rows.proofs.KeyedRows.{no_entries}
 
 -- ---- a function of the values

@@ -17,15 +17,15 @@ use Rattle.gtfs_table.specs.declared.file.File.TheVariants as file
 use Rattle.gtfs_schema.specs.Columns.{id, required}
 use Rattle.gtfs_schema.specs.IdNumbers.{first_rows, ids_by_bytes}
 use Rattle.gtfs_schema.specs.Problems.{Passes}
-use Rattle.gtfs_schema.specs.Rows.{text_in}
+use Rattle.gtfs_schema.specs.RowConditions.{text_in}
 use Rattle.gtfs_schema.specs.steps.Ids.{FirstRows, ids_of, number_with, rows_by_number}
 use Rattle.gtfs_schema.proofs.SiteFacts.{text_itself}
-use Rattle.gtfs_rows.specs.Order.{by_key}
-use Rattle.gtfs_rows.specs.Reading.{frequency_in, rows_of, text_at, trip_in}
-use Rattle.gtfs_rows.specs.Views.{is_number_within}
+use Rattle.gtfs_rows.specs.TransferOrder.{by_key}
+use Rattle.gtfs_rows.specs.ContentRead.{frequency_in, rows_of, text_at, trip_in}
+use Rattle.gtfs_rows.specs.RowsInMemory.{is_number_within}
 use Rattle.gtfs_rows.proofs.Held.{filter_none}
 use Rattle.gtfs_rows.proofs.KeyedRows.{no_entries}
-use Rattle.gtfs_reading.specs.ByTrip.{AreNamedTrips, is_marked, named_trip, with_mark}
+use Rattle.gtfs_reading.specs.NamedTrips.{AreNamedTrips, is_marked, named_trip, with_mark}
 use Rattle.gtfs_reading.proofs.CalendarFacts.{rows_named}
 use Rattle.gtfs_reading.proofs.ContentIds.{ids_are, numbered_rows, one_number, trip_id_at}
 use Rattle.gtfs_reading.proofs.Fields.{numbered_row}

@@ -2,10 +2,10 @@
 use Rattle.std.proofs.Common.{◌≡◌, ◌∙◌, length, map, get_or, true, ap, subst, sym}
 use Rattle.std.specs.List.{list_all}
 use Rattle.csv.specs.Records.{Rising}
-use Rattle.gtfs_table.specs.Parts.{parts}
+use Rattle.gtfs_table.specs.FieldOffsets.{parts}
 use Rattle.gtfs_table.specs.Tables.{Dataset}
-use Rattle.gtfs_rows.specs.Reading.{content_of}
-use Rattle.gtfs_rows.specs.Views.{IsCut, stop_ids, stop_row_of, stop_time_names_rows}
+use Rattle.gtfs_rows.specs.ContentRead.{content_of}
+use Rattle.gtfs_rows.specs.RowsInMemory.{IsCut, stop_ids, stop_row_of, stop_time_names_rows}
 use Rattle.gtfs_rows.specs.declared.parts.Parts.{Parts}
 use Rattle.gtfs_reading.specs.StopTimeLists.{AreStopTimesOf, content_stop_ids}
 use Rattle.gtfs_rows.specs.NamedRows.{has_numbers_below, stop_row_named}

@@ -27,14 +27,14 @@ use Rattle.gtfs_schema.specs.FileRules.{is_absent_state, is_not_utf8_state, is_r
 use Rattle.gtfs_table.specs.declared.state.State.{State}
 use Rattle.gtfs_table.specs.declared.state.State.TheVariants as state
 use Rattle.gtfs_table.proofs.BlankFacts.{no_text}
-use Rattle.gtfs_schema.specs.Rows.{row_with, text_in, word_in}
+use Rattle.gtfs_schema.specs.RowConditions.{row_with, text_in, word_in}
 use Rattle.gtfs_schema.specs.steps.Ids.{FirstRows, first_row_with, first_rows, ids_of as ids_of_column, number_with, rows_by_number}
-use Rattle.gtfs_rows.specs.Reading.{first_agency, text_at}
-use Rattle.gtfs_rows.specs.Views.{is_number_within, text_of_number}
+use Rattle.gtfs_rows.specs.ContentRead.{first_agency, text_at}
+use Rattle.gtfs_rows.specs.RowsInMemory.{is_number_within, text_of_number}
 use Rattle.gtfs_rows.proofs.SameElements.{contains-first, contains-later}
 use Rattle.gtfs_rows.proofs.KeyedRows.{no_entries}
 use Rattle.gtfs_reading.specs.ServiceIds.{HasAll, NumbersText, service_ids, service_texts}
-use Rattle.gtfs_reading.specs.Named.{ids_of}
+use Rattle.gtfs_reading.specs.NamedTexts.{ids_of}
 use Rattle.gtfs_reading.proofs.ByIds.{ids_read}
 use Rattle.gtfs_reading.proofs.IdTexts.{filled_required, known_one, no_empty_id, number_within, numbered, unnumbered, none_unknown, text_at_is, word_none, word_there}
 

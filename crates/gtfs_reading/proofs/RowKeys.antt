@@ -16,8 +16,8 @@ use Rattle.gtfs_schema.specs.declared.code.Code.TheVariants as code
 use Rattle.gtfs_schema.specs.KeyRules.{all_there, key_in, same_key}
 use Rattle.gtfs_schema.specs.Problems.{Passes, kept}
 use Rattle.gtfs_schema.specs.References.{reported_column}
-use Rattle.gtfs_schema.specs.Rows.{value_in, word_in}
-use Rattle.gtfs_schema.specs.Values.{as_amount, if_both, is_word, value_eq}
+use Rattle.gtfs_schema.specs.RowConditions.{value_in, word_in}
+use Rattle.gtfs_schema.specs.FieldValues.{as_amount, if_both, is_word, value_eq}
 use Rattle.gtfs_schema.proofs.EachFacts.{any_follows}
 use Rattle.gtfs_schema.proofs.SiteFacts.{text_itself}
 use Rattle.gtfs_schema.proofs.ValueFacts.{amount_value, is_word_some, word_value}

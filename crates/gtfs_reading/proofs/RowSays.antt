@@ -9,18 +9,18 @@ use Rattle.gtfs_table.specs.Tables.{Dataset}
 use Rattle.gtfs_table.specs.declared.file.File.TheVariants as file
 use Rattle.gtfs_schema.specs.IdNumbers.{ids_by_bytes}
 use Rattle.gtfs_schema.specs.Problems.{Passes}
-use Rattle.gtfs_schema.specs.Rows.{amount_in, text_in, word_in}
-use Rattle.gtfs_stop_times.specs.Choices.{timepoint_code}
+use Rattle.gtfs_schema.specs.RowConditions.{amount_in, text_in, word_in}
+use Rattle.gtfs_stop_times.specs.StopTimeChoices.{timepoint_code}
 use Rattle.gtfs_stop_times.specs.declared.stop_time.StopTime.{StopTime}
 use Rattle.gtfs_rules.specs.StopTimes.{SaysStopTime}
 use Rattle.gtfs_rules.proofs.PassedRows.{stop_is}
-use Rattle.gtfs_rows.specs.Reading.{content_of, stop_row_in}
-use Rattle.gtfs_rows.specs.Views.{is_number_within, text_of_number}
+use Rattle.gtfs_rows.specs.ContentRead.{content_of, stop_row_in}
+use Rattle.gtfs_rows.specs.RowsInMemory.{is_number_within, text_of_number}
 use Rattle.gtfs_stop_times.specs.declared.stop_row.StopRow.{StopRow}
 use Rattle.gtfs_rows.specs.Headsigns.{KeepsHeadsigns, NamesHeadsign}
 use Rattle.gtfs_reading.specs.StopTimeLists.{content_stop_ids}
 use Rattle.gtfs_rows.specs.NamedRows.{has_numbers_below, stop_row_named}
-use Rattle.gtfs_stop_times.specs.Headsigned.{with_headsign_at}
+use Rattle.gtfs_stop_times.specs.HeadsignedRows.{with_headsign_at}
 use Rattle.gtfs_reading.proofs.ContentIds.{stop_ids_are}
 
 number_back : (o : Option ℕ) (a : Option ℤ) → option_map pos o ≡ a → o ≡ option_map unsigned_abs a

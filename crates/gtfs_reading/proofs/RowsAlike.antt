@@ -6,18 +6,18 @@ use Rattle.std.specs.List.{list_all}
 use Rattle.std.proofs.lemmas.List.{length-map}
 use Rattle.std.proofs.lemmas.Simd.{map-map}
 use Rattle.gtfs_field.specs.TextOrder.{text_cmp}
-use Rattle.gtfs_table.specs.Parts.{parts}
+use Rattle.gtfs_table.specs.FieldOffsets.{parts}
 use Rattle.gtfs_table.specs.Tables.{Dataset}
 use Rattle.gtfs_table.specs.declared.file.File.TheVariants as file
 use Rattle.gtfs_schema.specs.Columns.{id, optional, required}
 use Rattle.gtfs_schema.specs.Problems.{Passes}
 use Rattle.gtfs_schema.specs.steps.Ids.{FirstRows, ids_of as ids_of_column}
-use Rattle.gtfs_rows.specs.Reading.{agency_in, content_of, route_in, service_row_in, services_named, stop_in, trip_in}
-use Rattle.gtfs_rows.specs.Views.{agency_of, frequency_of, is_number_within, service_of}
+use Rattle.gtfs_rows.specs.ContentRead.{agency_in, content_of, route_in, service_row_in, services_named, stop_in, trip_in}
+use Rattle.gtfs_rows.specs.RowsInMemory.{agency_of, frequency_of, is_number_within, service_of}
 use Rattle.gtfs_reading.specs.declared.feed_rows.FeedRows.{FeedRows}
-use Rattle.gtfs_reading.specs.Cuts.{IsCutInto}
+use Rattle.gtfs_reading.specs.CutStopTimes.{IsCutInto}
 use Rattle.gtfs_reading.specs.FeedRows.{AreRowsOf, NumbersWithin}
-use Rattle.gtfs_reading.specs.Named.{ids_of}
+use Rattle.gtfs_reading.specs.NamedTexts.{ids_of}
 use Rattle.gtfs_rows.specs.NamedRows.{names_agency, names_parent, names_route_and_service, route_named, stop_named, trip_named, without_rows}
 use Rattle.gtfs_reading.specs.ServiceIds.{service_ids}
 use Rattle.gtfs_rows.specs.TransferEnds.{names_ends, transfer_named}

@@ -25,9 +25,9 @@ use Rattle.gtfs_table.specs.declared.file.File.{File}
 use Rattle.gtfs_table.specs.declared.file.File.TheVariants as file
 use Rattle.gtfs_schema.specs.Columns.{id, required, column_named}
 use Rattle.gtfs_schema.specs.Problems.{Passes}
-use Rattle.gtfs_schema.specs.Rows.{text_in}
-use Rattle.gtfs_rows.specs.Order.{Ascends}
-use Rattle.gtfs_rows.specs.Reading.{services_named, text_at}
+use Rattle.gtfs_schema.specs.RowConditions.{text_in}
+use Rattle.gtfs_rows.specs.TransferOrder.{Ascends}
+use Rattle.gtfs_rows.specs.ContentRead.{services_named, text_at}
 use Rattle.gtfs_rows.proofs.ByKey.{by_key_is}
 use Rattle.gtfs_rows.proofs.SameElements.{SameElements, contains-from_map, contains-map, pairs-map, same-from_permutation, same-map}
 use Rattle.gtfs_reading.specs.ServiceIds.{HasAll, NumbersText, service_ids, service_texts}

@@ -11,7 +11,7 @@ use Rattle.std.proofs.lemmas.Cmp.{on_total}
 use Rattle.std.proofs.lemmas.List.{get_or-map, length-map}
 use Rattle.std.proofs.lemmas.List.Sorted.{IsPermutation-map}
 use Rattle.std.proofs.lemmas.Map.Keys.{IsDistinct-from_apart, IsDistinct-IsPermutation, apart_from_distinct}
-use Rattle.gtfs_rows.specs.Order.{Ascends, by_key}
+use Rattle.gtfs_rows.specs.TransferOrder.{Ascends, by_key}
 use Rattle.gtfs_rows.proofs.ByKey.{ascends-from_adjacent, by_key_is}
 use Rattle.gtfs_rows.proofs.SameElements.{same-from_permutation}
 

@@ -8,11 +8,11 @@ use Rattle.std.proofs.lemmas.List.{get_or_append_left, get_or_push, length_push,
 use Rattle.std.proofs.lemmas.List.Elements.{filter-append}
 use Rattle.csv.specs.Records.{Rising}
 use Rattle.csv.proofs.RecordFacts.{rising-end}
-use Rattle.gtfs_table.specs.Parts.{add_to_last, parts}
+use Rattle.gtfs_table.specs.FieldOffsets.{add_to_last, parts}
 use Rattle.gtfs_table.proofs.PartFacts.{parts-more, parts-push}
 use Rattle.gtfs_stop_times.specs.declared.stop_time.StopTime.{StopTime}
 use Rattle.gtfs_rows.proofs.Held.{filter_none}
-use Rattle.gtfs_reading.specs.Gathering.{by_trip, of_trip}
+use Rattle.gtfs_reading.specs.GatheredStopTimes.{by_trip, of_trip}
 
 -- ---- starts at the end of a list
 

@@ -1,15 +1,15 @@
 -- The rows of a dataset with its stop times are its content.
 use Rattle.std.proofs.Common.{◌≡◌, ◌∷◌, [], List, map, refl}
 use Rattle.gtfs_field.proofs.ListFacts.{first_is, rest_is}
-use Rattle.gtfs_table.specs.Parts.{parts}
+use Rattle.gtfs_table.specs.FieldOffsets.{parts}
 use Rattle.gtfs_table.specs.Tables.{Dataset}
 use Rattle.gtfs_rows.specs.declared.frequency.Frequency.{Frequency as FrequencyRow}
 use Rattle.gtfs_rows.specs.declared.parts.Parts.{Parts}
 use Rattle.gtfs_stop_times.specs.declared.stop_row.StopRow.{StopRow as StopTime}
 use Rattle.gtfs_rows.specs.declared.trip.Trip.{Trip as TripRow}
-use Rattle.gtfs_rows.specs.Reading.{content_of}
+use Rattle.gtfs_rows.specs.ContentRead.{content_of}
 use Rattle.gtfs_rows.specs.Rows.{Trip}
-use Rattle.gtfs_rows.specs.Views.{content_of_parts, frequency_of, route_ids, service_ids, stop_row_of, trip_of, trips_of}
+use Rattle.gtfs_rows.specs.RowsInMemory.{content_of_parts, frequency_of, route_ids, service_ids, stop_row_of, trip_of, trips_of}
 use Rattle.gtfs_reading.specs.FeedRows.{AreRowsOf, rows_in}
 use Rattle.gtfs_rows.specs.NamedRows.{trip_named, without_rows}
 

@@ -25,16 +25,16 @@ use Rattle.gtfs_table.specs.declared.file.File.TheVariants as file
 use Rattle.gtfs_schema.specs.Columns.{column_named, id, optional}
 use Rattle.gtfs_schema.specs.KeyRules.{all_there, key_in, key_part, same_key}
 use Rattle.gtfs_schema.specs.Problems.{Passes}
-use Rattle.gtfs_schema.specs.Rows.{text_in, value_in, word_in}
-use Rattle.gtfs_schema.specs.Values.{Value, if_both, value_eq, word}
+use Rattle.gtfs_schema.specs.RowConditions.{text_in, value_in, word_in}
+use Rattle.gtfs_schema.specs.FieldValues.{Value, if_both, value_eq, word}
 use Rattle.gtfs_schema.specs.steps.Ids.{FirstRows, ids_of}
 use Rattle.gtfs_schema.proofs.SiteFacts.{text_itself}
 use Rattle.gtfs_schema.proofs.ValueFacts.{word_value}
 use Rattle.gtfs_rows.specs.declared.transfer.Transfer.{Transfer as TransferRow}
-use Rattle.gtfs_rows.specs.Order.{Ascends, by_key, transfer_key, transfer_key_cmp}
-use Rattle.gtfs_rows.specs.Reading.{transfer_in}
+use Rattle.gtfs_rows.specs.TransferOrder.{Ascends, by_key, transfer_key, transfer_key_cmp}
+use Rattle.gtfs_rows.specs.ContentRead.{transfer_in}
 use Rattle.gtfs_rows.specs.Rows.{Transfer}
-use Rattle.gtfs_rows.specs.Views.{is_number_within, text_of_number}
+use Rattle.gtfs_rows.specs.RowsInMemory.{is_number_within, text_of_number}
 use Rattle.gtfs_rows.proofs.ContentAgain.{transfer_antisymmetric, transfer_total}
 use Rattle.gtfs_rows.proofs.RowTexts.{all_at}
 use Rattle.gtfs_rows.proofs.SameElements.{pairs-map}

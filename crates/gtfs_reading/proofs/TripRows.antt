@@ -22,19 +22,19 @@ use Rattle.gtfs_table.specs.Tables.{Dataset}
 use Rattle.gtfs_table.specs.declared.file.File.TheVariants as file
 use Rattle.gtfs_schema.specs.IdNumbers.{ids_by_bytes}
 use Rattle.gtfs_schema.specs.Problems.{Passes}
-use Rattle.gtfs_schema.specs.Rows.{text_in, word_in}
-use Rattle.gtfs_schema.specs.Values.{is_word}
+use Rattle.gtfs_schema.specs.RowConditions.{text_in, word_in}
+use Rattle.gtfs_schema.specs.FieldValues.{is_word}
 use Rattle.gtfs_schema.proofs.SiteFacts.{text_itself}
 use Rattle.gtfs_schema.proofs.ValueFacts.{is_word_some as word-is}
 use Rattle.gtfs_stop_times.specs.declared.stop_time.StopTime.{StopTime}
 use Rattle.gtfs_rules.specs.StopTimes.{AreStopTimes, SaysStopTime, stop_time_cmp}
 use Rattle.gtfs_rules.proofs.PassedRows.{trip_is}
-use Rattle.gtfs_rows.specs.Order.{by_key}
-use Rattle.gtfs_rows.specs.Reading.{content_of, number_at, rows_of, stop_row_in, trip_in}
+use Rattle.gtfs_rows.specs.TransferOrder.{by_key}
+use Rattle.gtfs_rows.specs.ContentRead.{content_of, number_at, rows_of, stop_row_in, trip_in}
 use Rattle.gtfs_rows.specs.Rows.{StopRow}
 use Rattle.gtfs_rows.proofs.ByKey.{by_key_map}
 use Rattle.gtfs_rows.proofs.SameElements.{contains-filter, contains-from_filter, contains-from_map, contains-map, pairs-map}
-use Rattle.gtfs_reading.specs.Gathering.{by_trip, of_trip}
+use Rattle.gtfs_reading.specs.GatheredStopTimes.{by_trip, of_trip}
 use Rattle.gtfs_reading.proofs.ContentIds.{count_trips, ids_are, numbered_rows, one_number, rows_are, trip_id_at, trips_are}
 use Rattle.gtfs_reading.proofs.Starts.{by_trip-at, length-by_trip}
 

@@ -4,7 +4,7 @@ use Rattle.gtfs_table.specs.Rows.{rows}
 use Rattle.gtfs_table.specs.Tables.{Dataset}
 use Rattle.gtfs_table.specs.declared.file.File.{File}
 use Rattle.gtfs_table.specs.declared.file.File.TheVariants as file
-use Rattle.gtfs_schema.specs.Rows.{text_in}
+use Rattle.gtfs_schema.specs.RowConditions.{text_in}
 use Rattle.gtfs_trip_rules.specs.RowsById.{rows_of}
 use Rattle.gtfs_reading.specs.ColumnIndices.{column_indices}
 use Rattle.gtfs_reading.specs.declared.services.Calendars.TheInside as inside

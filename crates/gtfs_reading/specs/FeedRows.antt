@@ -1,13 +1,13 @@
 -- The rows of a dataset but its stop times: what the lists stand for, and that their numbers lie within them.
 use Rattle.std.specs.Prelude.{◌≡◌, ◌&&◌, true, length, map, nat_lt, option_map}
 use Rattle.std.specs.List.{list_all}
-use Rattle.gtfs_table.specs.Parts.{parts}
+use Rattle.gtfs_table.specs.FieldOffsets.{parts}
 use Rattle.gtfs_table.specs.Tables.{Dataset}
 use Rattle.gtfs_rows.specs.declared.parts.Parts.{Parts}
-use Rattle.gtfs_rows.specs.Reading.{content_of}
-use Rattle.gtfs_rows.specs.Views.{agency_of, frequency_of, is_number_within, service_of}
+use Rattle.gtfs_rows.specs.ContentRead.{content_of}
+use Rattle.gtfs_rows.specs.RowsInMemory.{agency_of, frequency_of, is_number_within, service_of}
 use Rattle.gtfs_reading.specs.declared.feed_rows.FeedRows.{FeedRows}
-use Rattle.gtfs_reading.specs.Cuts.{IsCutInto}
+use Rattle.gtfs_reading.specs.CutStopTimes.{IsCutInto}
 use Rattle.gtfs_rows.specs.NamedRows.{route_named, stop_named, trip_named, without_rows}
 use Rattle.gtfs_rows.specs.TransferEnds.{transfer_named}
 

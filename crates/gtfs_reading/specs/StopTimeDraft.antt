@@ -2,7 +2,7 @@
 use Rattle.std.specs.Prelude.{◌≡◌, ℕ, List, [], length, slice_index_or}
 use Rattle.csv.specs.Records.{Rising}
 use Rattle.gtfs_stop_times.specs.declared.stop_row.StopRow.{StopRow}
-use Rattle.gtfs_stop_times.specs.Headsigned.{Headsigned}
+use Rattle.gtfs_stop_times.specs.HeadsignedRows.{Headsigned}
 use Rattle.gtfs_reading.specs.declared.stop_times.StopTimes.{StopTimes}
 
 -- the lists of stop times that they become

@@ -3,9 +3,9 @@
 use Rattle.std.specs.Prelude.{◌≡◌, ◌<◌, ◌==◌, ℕ, Bool, true, false, List, length, map, slice_index_or, Option, Some, None}
 use Rattle.std.specs.List.{list_all, list_any}
 use Rattle.csv.specs.Records.{Rising}
-use Rattle.gtfs_table.specs.Parts.{parts}
+use Rattle.gtfs_table.specs.FieldOffsets.{parts}
 use Rattle.gtfs_table.specs.Tables.{Dataset}
-use Rattle.gtfs_rows.specs.Reading.{content_of}
+use Rattle.gtfs_rows.specs.ContentRead.{content_of}
 use Rattle.gtfs_stop_times.specs.declared.stop_row.StopRow.{StopRow as RowByNumber}
 use Rattle.gtfs_rows.specs.Headsigns.{AreDistinct}
 use Rattle.gtfs_rows.specs.NamedRows.{has_numbers_below, stop_row_named}

@@ -4,8 +4,8 @@ ghost use Rattle.std.specs.Prelude.{◌≡◌, [], IfOk, OnOk, codes, map};
 ghost use Rattle.gtfs_schema.specs.Problems.{Passes};
 ghost use Rattle.gtfs_schema.specs.steps.Ids.{first_rows, rows_by_number};
 ghost use Rattle.gtfs_reading.specs.ColumnIndices.{column_indices};
-ghost use Rattle.gtfs_rows.specs.Reading.{agency_in, content_of};
-ghost use Rattle.gtfs_rows.specs.Views.{agency_of};
+ghost use Rattle.gtfs_rows.specs.ContentRead.{agency_in, content_of};
+ghost use Rattle.gtfs_rows.specs.RowsInMemory.{agency_of};
 ghost use Rattle.gtfs_table.specs.declared.file.File.TheVariants as file;
 
 use crate::columns::column_indices;

@@ -4,7 +4,7 @@ ghost use Rattle.std.specs.Ordering.{int_eq};
 ghost use Rattle.std.specs.Prelude.{◌≡◌, pos, unwrap_or};
 ghost use Rattle.gtfs_schema.specs.Calendars.{week_in};
 ghost use Rattle.gtfs_schema.specs.Columns as kind;
-ghost use Rattle.gtfs_schema.specs.Reads.{amount_of};
+ghost use Rattle.gtfs_schema.specs.ReadFields.{amount_of};
 ghost use Rattle.gtfs_reading.specs.ColumnIndices.{column_indices};
 ghost use Rattle.gtfs_table.specs.declared.file.File.TheVariants as file;
 

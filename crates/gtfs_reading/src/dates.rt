@@ -4,7 +4,7 @@ ghost use Rattle.std.specs.Prelude.{◌≡◌, map, IfOk};
 ghost use Rattle.gtfs_schema.specs.Calendars.{exception_in};
 ghost use Rattle.gtfs_schema.specs.Columns as kind;
 ghost use Rattle.gtfs_reading.specs.ColumnIndices.{column_indices};
-ghost use Rattle.gtfs_reading.specs.Numbers.{exception_of};
+ghost use Rattle.gtfs_reading.specs.NumbersOfIds.{exception_of};
 ghost use Rattle.gtfs_table.specs.declared.file.File.TheVariants as file;
 
 use crate::numbers::day;

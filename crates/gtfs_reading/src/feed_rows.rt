@@ -2,11 +2,11 @@ ghost use Rattle.std.specs.Prelude.{◌≡◌, map, IfOk, OnOk};
 ghost use Rattle.gtfs_schema.specs.Problems.{Passes};
 ghost use Rattle.gtfs_schema.specs.steps.FeedIds.{AreNetworkIdsOf};
 ghost use Rattle.gtfs_reading.specs.FeedRows.{AreRowsOf, rows_in};
-ghost use Rattle.gtfs_reading.specs.Lists.{HasNetwork, HasTrips};
+ghost use Rattle.gtfs_reading.specs.SoundLists.{HasNetwork, HasTrips};
 ghost use Rattle.gtfs_reading.specs.ServiceIds.{HasAll, service_ids, service_texts};
-ghost use Rattle.gtfs_rows.specs.Reading.{content_of};
-ghost use Rattle.gtfs_rows.specs.Views.{content_of_parts, stop_row_of};
-ghost use Rattle.gtfs_table.specs.Parts.{parts};
+ghost use Rattle.gtfs_rows.specs.ContentRead.{content_of};
+ghost use Rattle.gtfs_rows.specs.RowsInMemory.{content_of_parts, stop_row_of};
+ghost use Rattle.gtfs_table.specs.FieldOffsets.{parts};
 ghost use Rattle.gtfs_table.specs.Tables.{Dataset};
 
 use crate::agencies::agencies;

@@ -2,9 +2,9 @@
 
 ghost use Rattle.std.specs.Prelude.{◌≡◌, ◌++◌, ◌-◌, [], length, not, replicate, take, IfOk, OnOk};
 ghost use Rattle.gtfs_schema.specs.Problems.{Passes};
-ghost use Rattle.gtfs_rows.specs.Reading.{content_of};
+ghost use Rattle.gtfs_rows.specs.ContentRead.{content_of};
 ghost use Rattle.gtfs_rules.specs.StopTimes.{AreStopTimes};
-ghost use Rattle.gtfs_reading.specs.Gathering.{AreGathered, IsEmptyFor};
+ghost use Rattle.gtfs_reading.specs.GatheredStopTimes.{AreGathered, IsEmptyFor};
 ghost use Rattle.gtfs_table.specs.Rows.{is_empty, records_in};
 ghost use Rattle.gtfs_table.specs.Tables.{field_under, record_at};
 ghost use Rattle.gtfs_table.specs.declared.file.File.TheVariants as file;

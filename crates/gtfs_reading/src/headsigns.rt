@@ -2,8 +2,8 @@
 
 ghost use Rattle.std.specs.Prelude.{◌≡◌, [], IfOk, OnOk, Some, slice_get, true};
 ghost use Rattle.gtfs_schema.specs.Columns as kind;
-ghost use Rattle.gtfs_schema.specs.Reads.{word_of};
-ghost use Rattle.gtfs_schema.specs.Values.{plain};
+ghost use Rattle.gtfs_schema.specs.ReadFields.{word_of};
+ghost use Rattle.gtfs_schema.specs.FieldValues.{plain};
 ghost use Rattle.gtfs_rows.specs.Headsigns.{AddsOnly, AreDistinct, KeepsHeadsigns, NamesHeadsign};
 ghost use Rattle.gtfs_reading.specs.HeadsignIndex.{with_headsign};
 

@@ -20,18 +20,17 @@
 //! `calendar` and `dates`, of which `services` are made. `columns` finds the columns of a file
 //! once, in the order of its schema, and a row is read by their places there. The ids of files are
 //! [`NetworkIds`](gtfs_schema::NetworkIds), and `service_ids` has those of services, which come
-//! of two files. `texts`, `numbers`, `choices` and `references` read a field. `gathered` has the
+//! of two files. `texts`, `numbers`, `read_choices` and `references` read a field. `gathered` has the
 //! lists of stop times while they are made, and `headsigns` the headsigns by number.
 //!
-//! What the rows are is said in `gtfs_rows`: `specs/Reading.antt` there has the content of a
+//! What the rows are is said in `gtfs_rows`: `specs/ContentRead.antt` there has the content of a
 //! dataset. `specs/FeedRows.antt` here says that the lists are that content,
-//! `specs/Named.antt` what a row with numbers stands for, and `specs/StopTimeLists.antt`
+//! `specs/NamedTexts.antt` what a row with numbers stands for, and `specs/StopTimeLists.antt`
 //! what the lists of stop times are.
 #![tactic(auto)]
 
 mod agencies;
 mod calendar;
-mod choices;
 mod columns;
 mod dates;
 mod draft;
@@ -41,6 +40,7 @@ mod gathered;
 mod headsigns;
 mod numbers;
 mod plain;
+mod read_choices;
 mod references;
 mod routes;
 mod service_ids;

@@ -2,9 +2,9 @@
 
 ghost use Rattle.std.specs.Prelude.{◌≡◌, pos, true, unsigned_abs, unwrap_or, IfSome};
 ghost use Rattle.gtfs_schema.specs.Columns as kind;
-ghost use Rattle.gtfs_schema.specs.Reads.{amount_of, colour_or};
+ghost use Rattle.gtfs_schema.specs.ReadFields.{amount_of, colour_or};
 ghost use Rattle.gtfs_field.specs.Kinds.{is_in_ranges};
-ghost use Rattle.gtfs_reading.specs.Numbers.{chosen, number_if_there, number_of};
+ghost use Rattle.gtfs_reading.specs.NumbersOfIds.{chosen, number_if_there, number_of};
 
 use gtfs_field::{Clock, Colour, Day};
 use gtfs_schema::values;

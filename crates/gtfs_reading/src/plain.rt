@@ -1,7 +1,7 @@
 //! Texts as the content of a dataset has them: a space in place of each control character.
 
 ghost use Rattle.std.specs.Prelude.{◌≡◌, string_bytes, IfOk};
-ghost use Rattle.gtfs_schema.specs.Values.{plain};
+ghost use Rattle.gtfs_schema.specs.FieldValues.{plain};
 
 use gtfs_field::OutOfMemory;
 use gtfs_schema::push_plain;

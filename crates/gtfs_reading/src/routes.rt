@@ -4,17 +4,17 @@ ghost use Rattle.std.specs.Prelude.{◌≡◌, ℕ, [], IfOk, OnOk, codes, map, 
 ghost use Rattle.gtfs_schema.specs.Problems.{Passes};
 ghost use Rattle.gtfs_schema.specs.steps.Ids.{first_rows, rows_by_number};
 ghost use Rattle.gtfs_reading.specs.ColumnIndices.{column_indices};
-ghost use Rattle.gtfs_reading.specs.Named.{ids_of, route_with_texts};
+ghost use Rattle.gtfs_reading.specs.NamedTexts.{ids_of, route_with_texts};
 ghost use Rattle.gtfs_rows.specs.NamedRows.{names_agency, route_named};
 ghost use Rattle.std.specs.List.{list_all};
-ghost use Rattle.gtfs_rows.specs.Reading.{content_of, route_in};
+ghost use Rattle.gtfs_rows.specs.ContentRead.{content_of, route_in};
 ghost use Rattle.gtfs_table.specs.Rows.{is_row, records_in};
 ghost use Rattle.gtfs_table.specs.Tables.{Dataset, record_at};
 ghost use Rattle.gtfs_table.specs.declared.file.File.TheVariants as file;
 
-use crate::choices::route_type;
 use crate::columns::column_indices;
 use crate::numbers::{colour, optional_count};
+use crate::read_choices::route_type;
 use crate::references::number;
 use crate::texts::{empty, read_id, read_optional_text};
 use gtfs_field::{List, OutOfMemory};

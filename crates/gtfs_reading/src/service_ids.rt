@@ -3,7 +3,7 @@
 
 ghost use Rattle.std.specs.Prelude.{◌≡◌, ◌++◌, ◌<◌, [], codes, length, map, slice_index_or, IfOk, IfSome, OnOk};
 ghost use Rattle.gtfs_schema.specs.Problems.{Passes};
-ghost use Rattle.gtfs_schema.specs.Rows.{text_in};
+ghost use Rattle.gtfs_schema.specs.RowConditions.{text_in};
 ghost use Rattle.gtfs_reading.specs.ServiceIds.{HasAll, NumbersText, service_ids, service_texts};
 ghost use Rattle.gtfs_table.specs.Rows.{rows};
 ghost use Rattle.gtfs_table.specs.declared.file.File.TheVariants as file;
@@ -21,7 +21,7 @@ pub(crate) struct ServiceIds<'a> {
 
 impl<'a> Model for ServiceIds<'a> {
     ghost use Rattle.std.specs.Prelude.{List, ℕ, map};
-    ghost use Rattle.gtfs_rows.specs.Order.{Ascends};
+    ghost use Rattle.gtfs_rows.specs.TransferOrder.{Ascends};
     ghost use Rattle.gtfs_field.specs.TextOrder.{text_cmp};
 
     ghost Value = { List (List ℕ) };

@@ -6,8 +6,8 @@ ghost use Rattle.gtfs_schema.specs.Calendars.{first_service_row, week_in};
 ghost use Rattle.gtfs_schema.specs.Problems.{Passes};
 ghost use Rattle.gtfs_days.specs.Service.{IsOrdered};
 ghost use Rattle.gtfs_reading.specs.ServiceIds.{service_ids};
-ghost use Rattle.gtfs_rows.specs.Reading.{content_of, service_row_in};
-ghost use Rattle.gtfs_rows.specs.Views.{service_of};
+ghost use Rattle.gtfs_rows.specs.ContentRead.{content_of, service_row_in};
+ghost use Rattle.gtfs_rows.specs.RowsInMemory.{service_of};
 ghost use Rattle.gtfs_table.specs.declared.file.File.TheVariants as file;
 
 use crate::calendar::week;

@@ -2,8 +2,8 @@
 
 ghost use Rattle.std.specs.Prelude.{◌≡◌, [], unwrap_or, IfOk, OnOk};
 ghost use Rattle.gtfs_schema.specs.Columns as kind;
-ghost use Rattle.gtfs_schema.specs.Reads.{word_of};
-ghost use Rattle.gtfs_schema.specs.Values.{plain};
+ghost use Rattle.gtfs_schema.specs.ReadFields.{word_of};
+ghost use Rattle.gtfs_schema.specs.FieldValues.{plain};
 ghost use Rattle.gtfs_table.specs.Tables.{field_under};
 
 use gtfs_field::{OutOfMemory, Text};

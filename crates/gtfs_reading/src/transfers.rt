@@ -6,14 +6,14 @@ ghost use Rattle.gtfs_schema.specs.Problems.{Passes};
 ghost use Rattle.gtfs_schema.specs.steps.Ids.{first_rows};
 ghost use Rattle.gtfs_rows.specs.TransferEnds.{names_ends, transfer_named, transfer_numbers};
 ghost use Rattle.gtfs_reading.specs.ColumnIndices.{column_indices};
-ghost use Rattle.gtfs_reading.specs.Named.{ids_of};
-ghost use Rattle.gtfs_rows.specs.Reading.{content_of, transfer_in};
+ghost use Rattle.gtfs_reading.specs.NamedTexts.{ids_of};
+ghost use Rattle.gtfs_rows.specs.ContentRead.{content_of, transfer_in};
 ghost use Rattle.gtfs_table.specs.Rows.{is_row, records_in, rows};
 ghost use Rattle.gtfs_table.specs.declared.file.File.TheVariants as file;
 
-use crate::choices::transfer_type;
 use crate::columns::column_indices;
 use crate::numbers::optional_count;
+use crate::read_choices::transfer_type;
 use crate::references::{as_route, as_stop, as_trip, number};
 use gtfs_field::{List, OutOfMemory};
 use gtfs_rows::{RouteNo, StopNo, Transfer, TripNo};

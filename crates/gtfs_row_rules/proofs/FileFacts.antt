@@ -4,7 +4,7 @@ use Rattle.std.specs.Prelude.{◌&&◌, ◌||◌, ◌==◌, bytes_eq}
 use Rattle.std.specs.List.{list_any}
 use Rattle.std.proofs.lemmas.Bool.{and_from, eqb-true}
 use Rattle.std.proofs.Math.Bool.{and-true}
-use Rattle.gtfs_table.specs.Reading.{kept_files}
+use Rattle.gtfs_table.specs.TablesRead.{kept_files}
 use Rattle.gtfs_table.specs.Tables.{Dataset}
 use Rattle.gtfs_table.specs.declared.file.File.{File}
 use Rattle.gtfs_table.specs.declared.file.File.TheVariants as file
@@ -12,10 +12,10 @@ use Rattle.gtfs_schema.specs.declared.code.Code.{Code}
 use Rattle.gtfs_schema.specs.declared.code.Code.TheVariants as code
 use Rattle.gtfs_schema.specs.steps.FieldCodes.{in_file_of}
 use Rattle.gtfs_schema.specs.FileRules.{file_not_kept, is_at, is_needed, is_read}
-use Rattle.gtfs_schema.specs.steps.Found.{Adds, is_same, Reports}
-use Rattle.gtfs_schema.specs.steps.Picks.{in_file, is_kept, of_codes}
+use Rattle.gtfs_schema.specs.steps.FoundProblems.{Adds, is_same, Reports}
+use Rattle.gtfs_schema.specs.steps.KeptColumns.{in_file, is_kept, of_codes}
 use Rattle.gtfs_schema.specs.Problems.{FileName, kept, other, Problem, holds, holds_in, is_code, is_problem}
-use Rattle.gtfs_schema.specs.Rows.{is_file}
+use Rattle.gtfs_schema.specs.RowConditions.{is_file}
 use Rattle.gtfs_table.specs.Rows.{is_empty}
 use Rattle.gtfs_table.proofs.BlankFacts.{no_text}
 use Rattle.gtfs_schema.proofs.BoolFacts.{same_test, and_parts, or_left}

@@ -16,12 +16,12 @@ use Rattle.gtfs_schema.specs.Columns.{Column, column_named, columns_of}
 use Rattle.gtfs_schema.specs.ColumnRules.{is_required}
 use Rattle.gtfs_schema.specs.steps.ColumnView.{column_of}
 use Rattle.gtfs_schema.specs.steps.FieldCodes.{in_file_of}
-use Rattle.gtfs_schema.specs.steps.Found.{is_same, Reports}
-use Rattle.gtfs_schema.specs.steps.Picks.{at_column, in_file, is_kept, of_codes}
+use Rattle.gtfs_schema.specs.steps.FoundProblems.{is_same, Reports}
+use Rattle.gtfs_schema.specs.steps.KeptColumns.{at_column, in_file, is_kept, of_codes}
 use Rattle.gtfs_schema.specs.Problems.{Problem, holds_in, is_code, is_problem}
 use Rattle.gtfs_table.specs.Rows.{has_no_record, records_in, is_empty}
-use Rattle.gtfs_schema.specs.Rows.{header, is_kept_column, is_named, times_named}
-use Rattle.gtfs_schema.specs.Values.{if_there}
+use Rattle.gtfs_schema.specs.RowConditions.{header, is_kept_column, is_named, times_named}
+use Rattle.gtfs_schema.specs.FieldValues.{if_there}
 use Rattle.gtfs_schema.proofs.BoolFacts.{and_parts}
 use Rattle.gtfs_schema.proofs.EachFacts.{any_and, of_any}
 use Rattle.gtfs_row_rules.proofs.FileFacts.{held}

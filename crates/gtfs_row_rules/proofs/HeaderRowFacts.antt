@@ -10,15 +10,15 @@ use Rattle.gtfs_table.specs.declared.file.File.{File}
 use Rattle.gtfs_schema.specs.declared.code.Code.{Code}
 use Rattle.gtfs_row_rules.specs.declared.fields.Header.{Header}
 use Rattle.gtfs_row_rules.specs.declared.fields.Located.{Located as LocatedColumn}
-use Rattle.gtfs_schema.specs.steps.Cells.{cell_code, is_found}
+use Rattle.gtfs_schema.specs.steps.CellFaults.{cell_code, is_found}
 use Rattle.gtfs_schema.specs.Columns.{Column, columns_of, column_named}
-use Rattle.gtfs_row_rules.specs.HeaderView.{Located, is_found_in, located, located_code, located_of, row_reports, IsHeader}
+use Rattle.gtfs_row_rules.specs.HeaderColumns.{Located, is_found_in, located, located_code, located_of, row_reports, IsHeader}
 use Rattle.gtfs_schema.specs.steps.FieldCodes.{field_codes, in_file_of, is_in_row}
-use Rattle.gtfs_schema.specs.steps.Found.{Adds, Reports}
+use Rattle.gtfs_schema.specs.steps.FoundProblems.{Adds, Reports}
 use Rattle.gtfs_schema.specs.Problems.{Problem, is_problem}
-use Rattle.gtfs_schema.specs.Rows.{text_in}
+use Rattle.gtfs_schema.specs.RowConditions.{text_in}
 use Rattle.gtfs_table.specs.Rows.{is_row, records_in}
-use Rattle.gtfs_schema.specs.Values.{if_there}
+use Rattle.gtfs_schema.specs.FieldValues.{if_there}
 use Rattle.gtfs_schema.proofs.AddFacts.{adds_alike}
 use Rattle.gtfs_schema.proofs.NamedFacts.{has_name, kept_any, kept_name_filled, kept_name_is, named_located}
 use Rattle.gtfs_schema.proofs.RowFacts.{at_row}

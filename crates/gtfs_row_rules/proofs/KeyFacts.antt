@@ -13,8 +13,8 @@ use Rattle.std.proofs.lemmas.List.Folds.{list_any-append}
 use Rattle.gtfs_table.specs.Tables.{Dataset}
 use Rattle.gtfs_table.specs.declared.file.File.{File}
 use Rattle.gtfs_table.specs.Rows.{is_row, records_in, rows}
-use Rattle.gtfs_row_rules.specs.KeyView.{KeyAt, has_key, repeats_key}
-use Rattle.gtfs_schema.specs.Values.{Value, value_eq, if_there, if_both}
+use Rattle.gtfs_row_rules.specs.RowKeys.{KeyAt, has_key, repeats_key}
+use Rattle.gtfs_schema.specs.FieldValues.{Value, value_eq, if_there, if_both}
 use Rattle.gtfs_row_rules.proofs.SingleKeyFacts.{none_below}
 
 -- ---- the rows before one of them are those of lower numbers

@@ -7,10 +7,10 @@ use Rattle.gtfs_field.specs.Kinds.{date_of, shaped, time_of}
 use Rattle.gtfs_field.specs.declared.fault.FieldFault.{FieldFault}
 use Rattle.gtfs_schema.specs.Columns.{date, id, time}
 use Rattle.gtfs_schema.specs.KeyRules.{all_there}
-use Rattle.gtfs_schema.specs.Reads.{amount_of, word_of}
-use Rattle.gtfs_schema.specs.Values.{word, amount, as_amount, as_word, value_of_count, has_control, measured, readable}
+use Rattle.gtfs_schema.specs.ReadFields.{amount_of, word_of}
+use Rattle.gtfs_schema.specs.FieldValues.{word, amount, as_amount, as_word, value_of_count, has_control, measured, readable}
 use Rattle.gtfs_table.specs.Rows.{is_empty}
-use Rattle.gtfs_row_rules.specs.KeyView.{kind_of_number, numbered_key}
+use Rattle.gtfs_row_rules.specs.RowKeys.{kind_of_number, numbered_key}
 use Rattle.gtfs_row_rules.specs.declared.keys.Number.{Number}
 use Rattle.gtfs_row_rules.specs.declared.keys.Number.TheVariants as numbers
 

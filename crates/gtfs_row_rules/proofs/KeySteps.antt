@@ -6,8 +6,8 @@ use Rattle.gtfs_table.specs.declared.file.File.{File}
 use Rattle.gtfs_table.specs.declared.file.File.TheVariants as file
 use Rattle.gtfs_table.specs.Rows.{is_row, records_in}
 use Rattle.gtfs_schema.specs.KeyRules.{all_there, key_in, key_twice}
-use Rattle.gtfs_schema.specs.Values.{Value}
-use Rattle.gtfs_row_rules.specs.KeyView.{KeyAt, end_part, key_at, numbered_in, numbered_key, repeats_key}
+use Rattle.gtfs_schema.specs.FieldValues.{Value}
+use Rattle.gtfs_row_rules.specs.RowKeys.{KeyAt, end_part, key_at, numbered_in, numbered_key, repeats_key}
 use Rattle.gtfs_row_rules.specs.declared.keys.Number.{Number}
 
 pub same_keys : (key read : KeyAt) → ((m : ℕ) → read m ≡ key m) → (d : Dataset) (x : File) (n : ℕ)

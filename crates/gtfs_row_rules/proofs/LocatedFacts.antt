@@ -9,8 +9,8 @@ use Rattle.gtfs_table.specs.Tables.{Records, column_of as index_of}
 use Rattle.gtfs_schema.specs.declared.columns.Column.{Column as CodeColumn}
 use Rattle.gtfs_row_rules.specs.declared.fields.Located.{Located as LocatedColumn}
 use Rattle.gtfs_schema.specs.steps.ColumnView.{column_of}
-use Rattle.gtfs_row_rules.specs.HeaderView.{Located, located, located_of}
-use Rattle.gtfs_schema.specs.steps.Found.{Adds}
+use Rattle.gtfs_row_rules.specs.HeaderColumns.{Located, located, located_of}
+use Rattle.gtfs_schema.specs.steps.FoundProblems.{Adds}
 use Rattle.gtfs_schema.specs.Problems.{Problem, lists_problem}
 use Rattle.gtfs_schema.proofs.AddFacts.{adds_alike}
 

@@ -5,10 +5,10 @@ use Rattle.gtfs_table.specs.Tables.{Dataset}
 use Rattle.gtfs_table.specs.declared.file.File.TheVariants as file
 use Rattle.gtfs_schema.specs.Columns.{id}
 use Rattle.gtfs_schema.specs.PresenceRules.{has_wrong_parent, lacks_agency, lacks_end, lacks_name, lacks_name_or_position}
-use Rattle.gtfs_schema.specs.Rows.{text_in}
+use Rattle.gtfs_schema.specs.RowConditions.{text_in}
 use Rattle.gtfs_table.specs.Rows.{is_empty}
-use Rattle.gtfs_schema.specs.Values.{readable}
-use Rattle.gtfs_row_rules.specs.PresenceView.{is_chosen}
+use Rattle.gtfs_schema.specs.FieldValues.{readable}
+use Rattle.gtfs_row_rules.specs.ChosenConditions.{is_chosen}
 use Rattle.gtfs_schema.proofs.StepFacts.{Reported}
 
 abbrev pub presence_rules : List Reported

@@ -11,13 +11,13 @@ use Rattle.gtfs_table.specs.declared.file.File.TheVariants as file
 use Rattle.gtfs_schema.specs.declared.code.Code.{Code}
 use Rattle.gtfs_schema.specs.declared.code.Code.TheVariants as code
 use Rattle.gtfs_schema.specs.steps.FieldCodes.{field_codes, in_file_of}
-use Rattle.gtfs_schema.specs.steps.Found.{Reports}
-use Rattle.gtfs_schema.specs.steps.Picks.{at_column, is_kept, of_codes}
+use Rattle.gtfs_schema.specs.steps.FoundProblems.{Reports}
+use Rattle.gtfs_schema.specs.steps.KeptColumns.{at_column, is_kept, of_codes}
 use Rattle.gtfs_schema.specs.PeriodRules.{ends_at_start}
 use Rattle.gtfs_schema.specs.PresenceRules.{has_other_zone}
 use Rattle.gtfs_schema.specs.References.{reported_column}
 use Rattle.gtfs_schema.specs.Problems.{Problem, holds, holds_in, is_code, is_problem}
-use Rattle.gtfs_schema.specs.Rows.{is_file}
+use Rattle.gtfs_schema.specs.RowConditions.{is_file}
 use Rattle.gtfs_schema.specs.ServiceRules.{ends_before_start}
 use Rattle.gtfs_schema.proofs.BoolFacts.{and_parts, or_left, or_right, same_test}
 use Rattle.gtfs_schema.proofs.EachFacts.{any_follows}

@@ -14,10 +14,10 @@ use Rattle.gtfs_schema.specs.steps.Ids.{FirstRows, first_rows}
 use Rattle.gtfs_schema.specs.KeyRules.{all_there, key_twice}
 use Rattle.gtfs_schema.specs.References.{reported_column}
 use Rattle.gtfs_table.specs.Rows.{is_row, records_in, rows, is_empty}
-use Rattle.gtfs_schema.specs.Rows.{text_in}
+use Rattle.gtfs_schema.specs.RowConditions.{text_in}
 use Rattle.gtfs_row_rules.specs.SingleKeys.{is_repeated}
-use Rattle.gtfs_schema.specs.Reads.{is_id}
-use Rattle.gtfs_schema.specs.Values.{Value, word, value_eq, has_control, if_both, if_there, readable}
+use Rattle.gtfs_schema.specs.ReadFields.{is_id}
+use Rattle.gtfs_schema.specs.FieldValues.{Value, word, value_eq, has_control, if_both, if_there, readable}
 use Rattle.gtfs_schema.proofs.IdFacts.{first_row_is}
 use Rattle.gtfs_schema.proofs.BoolFacts.{same_test, no_test, and_parts}
 use Rattle.gtfs_schema.proofs.SiteFacts.{text_is, text_itself}

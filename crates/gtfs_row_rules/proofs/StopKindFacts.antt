@@ -5,11 +5,11 @@ use Rattle.gtfs_table.specs.Tables.{Dataset}
 use Rattle.gtfs_table.specs.declared.file.File.{File}
 use Rattle.gtfs_table.specs.declared.file.File.TheVariants as file
 use Rattle.gtfs_schema.specs.steps.Ids.{FirstRows, first_rows}
-use Rattle.gtfs_schema.specs.Rows.{choice_in, is_file}
+use Rattle.gtfs_schema.specs.RowConditions.{choice_in, is_file}
 use Rattle.gtfs_schema.specs.steps.StopTypes.{AreStopTypes, type_of, type_with}
 use Rattle.gtfs_row_rules.specs.StopKinds.{is_other_parent}
 use Rattle.gtfs_schema.specs.StopRules.{wrong_kind_of_stop}
-use Rattle.gtfs_schema.specs.Values.{if_there, is_one_of}
+use Rattle.gtfs_schema.specs.FieldValues.{if_there, is_one_of}
 use Rattle.gtfs_schema.proofs.SiteFacts.{is_site}
 use Rattle.gtfs_schema.proofs.StopTypeFacts.{alone, kind_sites, read_type, same_type, reported_at_kinds}
 

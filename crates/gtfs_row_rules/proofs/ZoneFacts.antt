@@ -7,10 +7,10 @@ use Rattle.gtfs_table.specs.Tables.{Dataset}
 use Rattle.gtfs_table.specs.declared.file.File.TheVariants as file
 use Rattle.gtfs_schema.specs.Columns.{id}
 use Rattle.gtfs_schema.specs.PresenceRules.{first_zone}
-use Rattle.gtfs_schema.specs.Reads.{word_of}
-use Rattle.gtfs_schema.specs.Rows.{is_readable_in, text_in, word_in}
+use Rattle.gtfs_schema.specs.ReadFields.{word_of}
+use Rattle.gtfs_schema.specs.RowConditions.{is_readable_in, text_in, word_in}
 use Rattle.gtfs_table.specs.Rows.{is_empty, rows}
-use Rattle.gtfs_schema.specs.Values.{Value, as_word, has_control, readable, word}
+use Rattle.gtfs_schema.specs.FieldValues.{Value, as_word, has_control, readable, word}
 
 abbrev id_value : Bool → Bool → List ℕ → Option Value
 id_value empty is_clean t = if empty then None else result_ok (shaped is_clean (Ok (word t)))

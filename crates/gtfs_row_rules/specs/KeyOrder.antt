@@ -6,7 +6,7 @@ use Rattle.std.specs.Ordering.{int_cmp, int_eq, is_eq, nat_cmp, ordering_then}
 use Rattle.std.specs.declared.cmp.Ordering.{Ordering}
 use Rattle.std.specs.declared.cmp.Ordering.TheVariants.{Less, Equal, Greater}
 use Rattle.std.proofs.lemmas.Map.Text.{is_eq-slice_cmp}
-use Rattle.gtfs_schema.specs.Values.{word, amount, value_eq}
+use Rattle.gtfs_schema.specs.FieldValues.{word, amount, value_eq}
 
 -- a tie of both parts
 tied_then : (a b : Ordering) → is_eq (ordering_then a b) ≡ (is_eq a && is_eq b)

@@ -1,8 +1,8 @@
-pub mod HeaderView
+pub mod ChosenConditions
+pub mod HeaderColumns
 pub mod KeyOrder
-pub mod KeyView
-pub mod PresenceView
 pub mod RowCodes
+pub mod RowKeys
 pub mod RowRules
 pub mod SingleKeys
 pub mod StopKinds

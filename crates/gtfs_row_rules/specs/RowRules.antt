@@ -4,7 +4,7 @@ use Rattle.gtfs_table.specs.Tables.{Dataset, record_at}
 use Rattle.gtfs_table.specs.declared.file.File.{File}
 use Rattle.gtfs_table.specs.Rows.{is_row, records_in, rows}
 use Rattle.gtfs_schema.specs.declared.code.Code.{Code}
-use Rattle.gtfs_schema.specs.steps.Found.{Reports}
+use Rattle.gtfs_schema.specs.steps.FoundProblems.{Reports}
 use Rattle.gtfs_schema.specs.Problems.{Problem, holds_in, is_problem}
 
 -- at this column of a file a code holds of just the rows that pass a test

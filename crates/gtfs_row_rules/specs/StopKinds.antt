@@ -3,7 +3,7 @@ use Rattle.std.specs.Prelude.{ℕ, ◌&&◌, ◌||◌, not, Bool, List, [], ◌�
 use Rattle.gtfs_row_rules.specs.declared.stop_kinds.NamedStop.{NamedStop}
 use Rattle.gtfs_table.specs.Tables.{field_under}
 use Rattle.gtfs_schema.specs.steps.StopTypes.{type_with}
-use Rattle.gtfs_schema.specs.Values.{is_one_of}
+use Rattle.gtfs_schema.specs.FieldValues.{is_one_of}
 
 -- the type of the stop that a record names
 abbrev pub named_type : NamedStop → List (List ℕ) → Option ℤ

@@ -2,9 +2,9 @@ ghost use Rattle.std.specs.Prelude.{◌≡◌, ◌&&◌, filter_map, length, map
 ghost use Rattle.gtfs_schema.specs.Columns.{columns_of};
 ghost use Rattle.gtfs_schema.specs.steps.ColumnView.{column_of};
 ghost use Rattle.gtfs_schema.specs.steps.FieldCodes.{field_codes, in_file_of, is_found_at, is_in_row, length_code};
-ghost use Rattle.gtfs_row_rules.specs.HeaderView.{located, located_of, row_reports, IsHeader};
+ghost use Rattle.gtfs_row_rules.specs.HeaderColumns.{located, located_of, row_reports, IsHeader};
 ghost use Rattle.gtfs_schema.proofs.FieldRowFacts.{silent_fields};
-ghost use Rattle.gtfs_schema.specs.steps.Found.{Adds};
+ghost use Rattle.gtfs_schema.specs.steps.FoundProblems.{Adds};
 ghost use Rattle.gtfs_table.specs.Rows.{records_in};
 
 use crate::rule::RowRules;

@@ -2,11 +2,11 @@ ghost use Rattle.std.specs.Prelude.{◌≡◌, ◌==◌, ◌&&◌, [], ◌∷◌
 ghost use Rattle.gtfs_schema.specs.declared.code.Code.TheVariants as code;
 ghost use Rattle.gtfs_schema.specs.steps.FieldCodes.{in_file_of};
 ghost use Rattle.gtfs_schema.specs.FileRules.{file_empty, file_missing, is_absent, is_needed, is_read, not_utf8};
-ghost use Rattle.gtfs_schema.specs.steps.Found.{Reports};
-ghost use Rattle.gtfs_schema.specs.steps.Picks.{of_codes};
+ghost use Rattle.gtfs_schema.specs.steps.FoundProblems.{Reports};
+ghost use Rattle.gtfs_schema.specs.steps.KeptColumns.{of_codes};
 ghost use Rattle.gtfs_schema.specs.Problems.{kept};
 ghost use Rattle.gtfs_table.specs.Rows.{rows};
-ghost use Rattle.gtfs_schema.specs.View.{problem_of};
+ghost use Rattle.gtfs_schema.specs.ProblemTexts.{problem_of};
 
 use gtfs_field::OutOfMemory;
 use gtfs_schema::{Code, FileName, Found, Problem};

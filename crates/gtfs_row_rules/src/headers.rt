@@ -5,12 +5,12 @@ ghost use Rattle.gtfs_schema.specs.Columns.{column_named, columns_of};
 ghost use Rattle.gtfs_schema.specs.ColumnRules.{column_missing};
 ghost use Rattle.gtfs_schema.specs.steps.ColumnView.{column_of};
 ghost use Rattle.gtfs_schema.specs.steps.FieldCodes.{in_file_of};
-ghost use Rattle.gtfs_schema.specs.steps.Found.{Reports};
-ghost use Rattle.gtfs_schema.specs.steps.Picks.{of_codes};
+ghost use Rattle.gtfs_schema.specs.steps.FoundProblems.{Reports};
+ghost use Rattle.gtfs_schema.specs.steps.KeptColumns.{of_codes};
 ghost use Rattle.gtfs_schema.specs.Problems.{kept};
-ghost use Rattle.gtfs_schema.specs.Rows.{times_named as times_in};
+ghost use Rattle.gtfs_schema.specs.RowConditions.{times_named as times_in};
 ghost use Rattle.gtfs_table.specs.Rows.{is_empty};
-ghost use Rattle.gtfs_schema.specs.View.{problem_of};
+ghost use Rattle.gtfs_schema.specs.ProblemTexts.{problem_of};
 
 use gtfs_field::OutOfMemory;
 use gtfs_schema::{

@@ -1,11 +1,11 @@
 ghost use Rattle.std.specs.Prelude.{◌≡◌, ◌&&◌, ◌||◌, ℕ, is_some};
 ghost use Rattle.gtfs_schema.specs.Columns.{id};
 ghost use Rattle.gtfs_schema.specs.PresenceRules.{has_many_agencies, has_wrong_parent, is_choice, is_of_type, lacks_agency, lacks_name};
-ghost use Rattle.gtfs_row_rules.specs.PresenceView.{is_chosen};
+ghost use Rattle.gtfs_row_rules.specs.ChosenConditions.{is_chosen};
 ghost use Rattle.gtfs_table.specs.Rows.{records_in, is_empty};
 ghost use Rattle.gtfs_table.specs.Tables.{field_under, record_at};
-ghost use Rattle.gtfs_schema.specs.Rows.{text_in};
-ghost use Rattle.gtfs_schema.specs.Values.{readable};
+ghost use Rattle.gtfs_schema.specs.RowConditions.{text_in};
+ghost use Rattle.gtfs_schema.specs.FieldValues.{readable};
 
 use crate::rule::Rule;
 use gtfs_schema::values;

@@ -4,7 +4,7 @@ ghost use Rattle.gtfs_schema.specs.declared.code.Code.TheVariants as Code;
 ghost use Rattle.gtfs_row_rules.specs.RowRules.{HoldsWhere};
 ghost use Rattle.gtfs_table.specs.Rows.{records_in};
 ghost use Rattle.gtfs_table.specs.Tables.{field_under, record_at};
-ghost use Rattle.gtfs_schema.specs.Rows.{text_in};
+ghost use Rattle.gtfs_schema.specs.RowConditions.{text_in};
 ghost use Rattle.gtfs_schema.specs.steps.UnknownIds.{is_unknown, is_unknown_in_both};
 
 use crate::rule::Rule;

@@ -1,7 +1,7 @@
 ghost use Rattle.std.specs.Prelude.{◌≡◌, ◌≢◌, codes, map, OnOk};
 ghost use Rattle.gtfs_schema.specs.PresenceRules.{has_many_agencies};
 ghost use Rattle.gtfs_schema.specs.steps.FeedIds.{AreIdsOf, AreNetworkIdsOf};
-ghost use Rattle.gtfs_schema.specs.steps.Found.{Reports};
+ghost use Rattle.gtfs_schema.specs.steps.FoundProblems.{Reports};
 ghost use Rattle.gtfs_schema.specs.steps.Ids.{first_rows};
 ghost use Rattle.gtfs_schema.specs.steps.StopTypes.{AreStopTypes};
 ghost use Rattle.gtfs_row_rules.specs.RowCodes.{in_rows, in_rows_of};

@@ -1,6 +1,6 @@
 ghost use Rattle.std.specs.Prelude.{◌≡◌, ◌||◌, ◌++◌, ⊤, ℕ, Bool, List, [], ◌∷◌, false, OnOk};
-ghost use Rattle.gtfs_schema.specs.steps.Found.{Reports};
-ghost use Rattle.gtfs_schema.specs.steps.Picks.{at_column};
+ghost use Rattle.gtfs_schema.specs.steps.FoundProblems.{Reports};
+ghost use Rattle.gtfs_schema.specs.steps.KeptColumns.{at_column};
 ghost use Rattle.gtfs_schema.proofs.RuleFacts.{silent_column};
 ghost use Rattle.gtfs_row_rules.specs.RowRules.{HoldsWhere, IsNext, Picks, ReportsOfRow};
 ghost use Rattle.gtfs_row_rules.specs.RowRules.{IsSilent, both_silent};

@@ -1,4 +1,4 @@
-ghost use Rattle.gtfs_schema.specs.Rows.{text_in};
+ghost use Rattle.gtfs_schema.specs.RowConditions.{text_in};
 ghost use Rattle.gtfs_schema.specs.declared.code.Code.TheVariants as Code;
 ghost use Rattle.gtfs_row_rules.specs.RowRules.{HoldsWhere};
 ghost use Rattle.gtfs_row_rules.specs.SingleKeys.{is_repeated};

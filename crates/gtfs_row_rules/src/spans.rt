@@ -1,7 +1,7 @@
 ghost use Rattle.std.specs.Prelude.{◌≡◌, ℕ, int_le, int_lt};
 ghost use Rattle.gtfs_schema.specs.Columns.{date, time};
-ghost use Rattle.gtfs_schema.specs.Reads.{amount_of};
-ghost use Rattle.gtfs_schema.specs.Values.{if_both};
+ghost use Rattle.gtfs_schema.specs.ReadFields.{amount_of};
+ghost use Rattle.gtfs_schema.specs.FieldValues.{if_both};
 ghost use Rattle.gtfs_schema.specs.PeriodRules.{ends_at_start};
 ghost use Rattle.gtfs_schema.specs.ServiceRules.{ends_before_start};
 ghost use Rattle.gtfs_table.specs.Rows.{records_in};

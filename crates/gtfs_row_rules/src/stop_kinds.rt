@@ -1,13 +1,13 @@
 ghost use Rattle.std.specs.Prelude.{◌≡◌, ◌∷◌, [], not, ℕ, codes};
 ghost use Rattle.gtfs_schema.specs.declared.code.Code.TheVariants as Code;
 ghost use Rattle.gtfs_schema.specs.steps.Ids.{first_rows};
-ghost use Rattle.gtfs_schema.specs.Rows.{text_in};
+ghost use Rattle.gtfs_schema.specs.RowConditions.{text_in};
 ghost use Rattle.gtfs_row_rules.specs.RowRules.{HoldsWhere};
 ghost use Rattle.gtfs_row_rules.specs.StopKinds.{is_other_parent, named_type};
 ghost use Rattle.gtfs_table.specs.Rows.{records_in};
 ghost use Rattle.gtfs_table.specs.Tables.{record_at};
 ghost use Rattle.gtfs_schema.specs.steps.StopTypes.{type_with, type_of, AreStopTypes};
-ghost use Rattle.gtfs_schema.specs.Values.{if_there, is_one_of};
+ghost use Rattle.gtfs_schema.specs.FieldValues.{if_there, is_one_of};
 
 use crate::rule::Rule;
 use gtfs_schema::{Finder, Ids, is_one_of, type_of, values};

@@ -1,8 +1,8 @@
 ghost use Rattle.std.specs.Prelude.{◌≡◌, ℕ, not, bytes_eq, codes, option_map};
 ghost use Rattle.gtfs_schema.specs.Columns.{id};
 ghost use Rattle.gtfs_schema.specs.PresenceRules.{first_zone, has_other_zone};
-ghost use Rattle.gtfs_schema.specs.Reads.{word_of};
-ghost use Rattle.gtfs_schema.specs.Values.{if_both};
+ghost use Rattle.gtfs_schema.specs.ReadFields.{word_of};
+ghost use Rattle.gtfs_schema.specs.FieldValues.{if_both};
 ghost use Rattle.gtfs_table.specs.Rows.{records_in};
 ghost use Rattle.gtfs_table.specs.Tables.{column_of, field_under, record_at};
 

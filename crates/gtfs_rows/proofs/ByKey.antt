@@ -11,8 +11,8 @@ use Rattle.std.proofs.lemmas.Map.Keys.{sorted_from_all_adjacent, Less-from_sorte
 use lib.Dec.{T}
 use Rattle.gtfs_field.proofs.OrderingFacts.{equal as tie-from}
 use Rattle.gtfs_field.proofs.TestFacts.{both_so as both_true}
-use Rattle.gtfs_rows.specs.Order.{Ascends}
-use Rattle.gtfs_rows.specs.Order.{by_key}
+use Rattle.gtfs_rows.specs.TransferOrder.{Ascends}
+use Rattle.gtfs_rows.specs.TransferOrder.{by_key}
 use Rattle.gtfs_rows.proofs.SameElements.{SameElements, contains-first, contains-later, contains-cases, contains-none, same-map, pairs-head, pairs-tail, pairs-map}
 
 -- a list of which each element is below the next ascends

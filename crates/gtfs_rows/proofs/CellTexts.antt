@@ -17,7 +17,7 @@ use Rattle.gtfs_table.specs.Blanks.{cut}
 use Rattle.gtfs_table.specs.Rows.{is_empty}
 use Rattle.gtfs_table.proofs.BlankFacts.{no_text as empty-is}
 use Rattle.gtfs_schema.specs.Columns.{Kind, id, text, count, choice, time, date, colour, coordinate}
-use Rattle.gtfs_schema.specs.Values.{Value, word, amount, read_as, readable, has_control, value_of_count, measured, one_of}
+use Rattle.gtfs_schema.specs.FieldValues.{Value, word, amount, read_as, readable, has_control, value_of_count, measured, one_of}
 use Rattle.gtfs_schema.proofs.SiteFacts.{text_is}
 use Rattle.gtfs_schema.proofs.PlainTexts.{plain-itself as plain-clean}
 use Rattle.gtfs_rows.specs.Cells.{is_clean, is_filled, is_between, is_of_kind, text_of}

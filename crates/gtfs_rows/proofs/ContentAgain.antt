@@ -13,16 +13,16 @@ use Rattle.gtfs_field.specs.TextOrder.{text_cmp}
 use Rattle.gtfs_table.specs.declared.file.File.TheVariants as file
 use Rattle.gtfs_table.specs.Rows.{rows, is_empty}
 use Rattle.gtfs_table.proofs.BlankFacts.{no_text}
-use Rattle.gtfs_schema.specs.Rows.{word_in}
-use Rattle.gtfs_schema.specs.Values.{as_word}
+use Rattle.gtfs_schema.specs.RowConditions.{word_in}
+use Rattle.gtfs_schema.specs.FieldValues.{as_word}
 use Rattle.gtfs_schema.proofs.SiteFacts.{text_is}
 use Rattle.gtfs_rows.specs.Content.{Content}
-use Rattle.gtfs_rows.specs.Order.{by_key, transfer_key, transfer_key_cmp}
-use Rattle.gtfs_rows.specs.Reading.{text_at, first_agency, agency_in, route_in, transfer_in, content_of}
+use Rattle.gtfs_rows.specs.TransferOrder.{by_key, transfer_key, transfer_key_cmp}
+use Rattle.gtfs_rows.specs.ContentRead.{text_at, first_agency, agency_in, route_in, transfer_in, content_of}
 use Rattle.gtfs_rows.specs.RowCells.{agency_cells, route_cells, transfer_cells, id_cell}
 use Rattle.gtfs_rows.specs.Rows.{Agency, Route, Transfer}
-use Rattle.gtfs_rows.specs.Sound.{IsSound, has_id, is_sound_agency, is_sound_route}
-use Rattle.gtfs_rows.specs.Written.{written_beside}
+use Rattle.gtfs_rows.specs.SoundContent.{IsSound, has_id, is_sound_agency, is_sound_route}
+use Rattle.gtfs_rows.specs.WrittenContent.{written_beside}
 use Rattle.gtfs_rows.proofs.Held.{text_antisymmetric}
 use Rattle.gtfs_rows.proofs.RangeLists.{map_range}
 use Rattle.gtfs_rows.proofs.RowTexts.{all_at}

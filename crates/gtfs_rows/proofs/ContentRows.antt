@@ -15,14 +15,14 @@ use Rattle.gtfs_table.specs.Tables.{Dataset}
 use Rattle.gtfs_table.specs.declared.file.File.{File}
 use Rattle.gtfs_table.specs.declared.file.File.TheVariants as file
 use Rattle.gtfs_schema.specs.Calendars.{service_rows, first_service_row, week_in, exception_in}
-use Rattle.gtfs_schema.specs.Rows.{word_in}
-use Rattle.gtfs_schema.specs.Values.{is_word}
+use Rattle.gtfs_schema.specs.RowConditions.{word_in}
+use Rattle.gtfs_schema.specs.FieldValues.{is_word}
 use Rattle.gtfs_schema.proofs.ValueFacts.{is_word_some}
-use Rattle.gtfs_rows.specs.Order.{Ascends, by_key, transfer_key, transfer_key_cmp}
-use Rattle.gtfs_rows.specs.Reading.{text_at, agency_in, stop_in, route_in, stop_row_in, frequency_in, rows_of, trip_in, transfer_in, services_named, service_row_in, content_of}
+use Rattle.gtfs_rows.specs.TransferOrder.{Ascends, by_key, transfer_key, transfer_key_cmp}
+use Rattle.gtfs_rows.specs.ContentRead.{text_at, agency_in, stop_in, route_in, stop_row_in, frequency_in, rows_of, trip_in, transfer_in, services_named, service_row_in, content_of}
 use Rattle.gtfs_rows.specs.RowCells.{week_list, stop_times_of, frequencies_of, weeks_of, exceptions_of}
 use Rattle.gtfs_rows.specs.Rows.{ServiceRow, StopRow, Frequency, Trip}
-use Rattle.gtfs_rows.specs.Sound.{IsInOrder}
+use Rattle.gtfs_rows.specs.SoundContent.{IsInOrder}
 use Rattle.gtfs_rows.proofs.ContentAgain.{transfer_total}
 use Rattle.gtfs_rows.proofs.Held.{held_member}
 use Rattle.gtfs_rows.proofs.KeyedRows.{all_from, by_key_ascends, by_key_member, found_is}

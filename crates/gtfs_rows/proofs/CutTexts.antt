@@ -9,8 +9,8 @@ use Rattle.gtfs_table.specs.Tables.{Dataset, column_of, field_under, record_at}
 use Rattle.gtfs_table.specs.declared.file.File.{File}
 use Rattle.gtfs_table.specs.Rows.{records_in}
 use Rattle.gtfs_table.proofs.BlankFacts.{first-blank, first-other, first-none}
-use Rattle.gtfs_schema.specs.Rows.{text_in}
-use Rattle.gtfs_schema.specs.Values.{has_control, plain}
+use Rattle.gtfs_schema.specs.RowConditions.{text_in}
+use Rattle.gtfs_schema.specs.FieldValues.{has_control, plain}
 use Rattle.gtfs_schema.proofs.SiteFacts.{text_itself}
 use Rattle.gtfs_rows.specs.Cells.{is_filled}
 

@@ -1,7 +1,7 @@
 -- A list that is cut at starts grows by one stretch.
 use Rattle.std.proofs.Common.{◌≡◌, ℕ, ◌≤◌, ◌++◌, ◌∷◌, [], List, get_or, refl, arith}
 use Rattle.csv.specs.Records.{Rising}
-use Rattle.gtfs_table.specs.Parts.{parts}
+use Rattle.gtfs_table.specs.FieldOffsets.{parts}
 
 pub rising_push : (s : ℕ) (starts : List ℕ) (size later : ℕ) → Rising s starts size → size ≤ later → Rising s (starts ++ size ∷ []) later
 unfolding Rising

@@ -8,7 +8,7 @@ use Rattle.std.specs.Ordering.{int_cmp}
 use Rattle.gtfs_field.proofs.OrderingFacts.{int-less}
 use Rattle.gtfs_days.specs.Service.{IsByDay}
 use Rattle.gtfs_days.specs.declared.exception.Exception.{Exception}
-use Rattle.gtfs_rows.specs.Order.{by_key}
+use Rattle.gtfs_rows.specs.TransferOrder.{by_key}
 use Rattle.gtfs_rows.proofs.ByKey.{by_key_is}
 use Rattle.gtfs_rows.proofs.SameElements.{same-from_permutation}
 

@@ -17,14 +17,14 @@ use Rattle.gtfs_table.specs.Rows.{rows, has_no_record, records_in}
 use Rattle.gtfs_schema.specs.Columns.{Column, columns_of, column_named}
 use Rattle.gtfs_schema.specs.ColumnRules.{is_required, column_missing, column_twice}
 use Rattle.gtfs_schema.specs.FileRules.{is_absent, is_needed, is_at, is_read, is_not_utf8_state, file_missing, not_utf8, file_empty}
-use Rattle.gtfs_schema.specs.Rows.{is_file, header, is_named, times_named, amount_in}
+use Rattle.gtfs_schema.specs.RowConditions.{is_file, header, is_named, times_named, amount_in}
 use Rattle.gtfs_schema.specs.ServiceRules.{ends_before_start, end_before_start}
-use Rattle.gtfs_schema.specs.Values.{if_there, if_both}
+use Rattle.gtfs_schema.specs.FieldValues.{if_there, if_both}
 use Rattle.gtfs_schema.proofs.NamedFacts.{kept_name_is}
 use Rattle.gtfs_rows.specs.Content.{Content}
 use Rattle.gtfs_rows.specs.RowCells.{agency_cells, week_cells, week_list, weeks_of}
-use Rattle.gtfs_rows.specs.Sound.{IsSound, is_sound_service, is_sound_week, if_given}
-use Rattle.gtfs_rows.specs.Written.{written_beside}
+use Rattle.gtfs_rows.specs.SoundContent.{IsSound, is_sound_service, is_sound_week, if_given}
+use Rattle.gtfs_rows.specs.WrittenContent.{written_beside}
 use Rattle.gtfs_rows.proofs.Held.{held_member}
 use Rattle.gtfs_rows.proofs.ServicesAgain.{week_again}
 use Rattle.gtfs_rows.proofs.TripCodes.{contained}

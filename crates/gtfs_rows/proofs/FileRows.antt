@@ -11,14 +11,15 @@ use Rattle.gtfs_table.specs.declared.file.File.{File}
 use Rattle.gtfs_table.specs.declared.file.File.TheVariants as file
 use Rattle.gtfs_table.specs.Rows.{records_in, is_row, rows, is_empty}
 use Rattle.gtfs_schema.specs.Columns.{Kind, id, text, count, choice, time, date, colour, coordinate, Empty, refused, nothing, means, Column, columns_of, column_named}
+use Rattle.gtfs_schema.specs.ReadRules.{may_lack}
 use Rattle.gtfs_schema.specs.ColumnRules.{is_required}
 use Rattle.gtfs_schema.specs.FieldRules.{in_row, is_id, is_form_fault, is_range_fault, value_empty, value_unreadable, value_out_of_range, control_in_id}
-use Rattle.gtfs_schema.specs.Rows.{is_named, text_in}
-use Rattle.gtfs_schema.specs.Values.{word, amount, read_as, has_control, if_there}
+use Rattle.gtfs_schema.specs.RowConditions.{is_named, text_in}
+use Rattle.gtfs_schema.specs.FieldValues.{word, amount, read_as, has_control, if_there}
 use Rattle.gtfs_schema.proofs.NamedFacts.{kept_name_filled}
-use Rattle.gtfs_rows.specs.Cells.{Cell, is_cell, are_cells, takes_none, cell_text, text_of, record_text}
-use Rattle.gtfs_rows.specs.Named.{cell_named, text_named}
-use Rattle.gtfs_rows.specs.Written.{records_of_cells, dataset_of_cells}
+use Rattle.gtfs_rows.specs.Cells.{Cell, is_cell, are_cells, cell_text, text_of, record_text}
+use Rattle.gtfs_rows.specs.NamedCells.{cell_named, text_named}
+use Rattle.gtfs_rows.specs.WrittenContent.{records_of_cells, dataset_of_cells}
 use Rattle.gtfs_rows.proofs.CellTexts.{writes_value, filled_parts}
 use Rattle.gtfs_rows.proofs.RangeLists.{filter_all}
 use Rattle.gtfs_rows.proofs.RowTexts.{all_at, record-written, records_written, text_written}
@@ -28,7 +29,7 @@ is_full fields = list_any (λ field. not (is_empty (cut field))) fields
 
 -- a column that each row fills
 abbrev fills : List Column → Bool
-fills cs = list_any (λ c. not (takes_none c.empty)) cs
+fills cs = list_any (λ c. not (may_lack c.empty)) cs
 
 kept_fills : (x : File) → fills (columns_of x) ≡ true
 kept_fills file.Agency = refl
@@ -41,8 +42,8 @@ kept_fills file.CalendarDates = refl
 kept_fills file.Frequencies = refl
 kept_fills file.Transfers = refl
 
-full-here : (c : Column) (v : Cell) → is_cell c v ≡ true → not (takes_none c.empty) ≡ true → not (is_empty (cut (cell_text c.kind v))) ≡ true
-full-here c None h fill = let never = not-true (takes_none c.empty) fill in cc
+full-here : (c : Column) (v : Cell) → is_cell c v ≡ true → not (may_lack c.empty) ≡ true → not (is_empty (cut (cell_text c.kind v))) ≡ true
+full-here c None h fill = let never = not-true (may_lack c.empty) fill in cc
 full-here c (Some v) h fill = let w = writes_value c.kind v h in rw (w.cut, w.filled) refl
 
 full-row : (cs : List Column) (vs : List Cell) → are_cells cs vs ≡ true → fills cs ≡ true → is_full (record_text cs vs) ≡ true
@@ -50,7 +51,7 @@ full-row [] vs are fill = cc
 full-row (c ∷ cs) [] are fill = cc
 full-row (c ∷ cs) (v ∷ vs) are fill =
     let parts = and_parts (is_cell c v) (are_cells cs vs) are in
-    elim (or_cases (not (takes_none c.empty)) (fills cs) fill) [
+    elim (or_cases (not (may_lack c.empty)) (fills cs) fill) [
       | inl here ↦ or_left (not (is_empty (cut (cell_text c.kind v)))) (is_full (record_text cs vs)) (full-here c v parts.0 here)
       | inr later ↦ or_right (not (is_empty (cut (cell_text c.kind v)))) (is_full (record_text cs vs)) (full-row cs vs parts.1 later)
     ]
@@ -139,7 +140,7 @@ module _ (others : List (List ℕ)) (cells : File → List (List Cell)) (x : Fil
   needs c (Some v) h = and_right (is_required c) _ ((writes_value c.kind v h).filled)
   needs c None h = and_left (is_required c) true (not_required c.empty h)
     where
-      not_required : (e : Empty) → takes_none e ≡ true → is_required (record { name = []; kind = id; empty = e }) ≡ false
+      not_required : (e : Empty) → may_lack e ≡ true → is_required (record { name = []; kind = id; empty = e }) ≡ false
       not_required refused h = cc
       not_required nothing h = refl
       not_required (means t) h = refl

@@ -1,13 +1,13 @@
 -- The text of a file of the written form, by its table and by the cells of its rows.
 use Rattle.std.proofs.Common.{◌≡◌, ◌∙◌, ap, sym, refl, Some}
 use Rattle.gtfs_table.specs.Tables.{of_records, table_of, table_records}
-use Rattle.gtfs_table.specs.Written.{text_of_records, text_of_table}
+use Rattle.gtfs_table.specs.TableTexts.{text_of_records, text_of_table}
 use Rattle.gtfs_table.specs.declared.file.File.{File}
 use Rattle.gtfs_table.specs.declared.file.File.TheVariants as file
 use Rattle.gtfs_rows.specs.Content.{Content}
 use Rattle.gtfs_rows.specs.FileTexts.{written_text}
 use Rattle.gtfs_rows.specs.RowCells.{cells_in}
-use Rattle.gtfs_rows.specs.Written.{records_of_cells, written}
+use Rattle.gtfs_rows.specs.WrittenContent.{records_of_cells, written}
 
 -- the table of a file of the written form
 pub written-table : (c : Content) (x : File) → table_of (written c) x ≡ of_records (records_of_cells x (cells_in c x))

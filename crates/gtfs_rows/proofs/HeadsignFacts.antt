@@ -7,7 +7,7 @@ use Rattle.std.proofs.lemmas.List.Elements.{All-append, All-cons, All-from_recur
 use Rattle.std.proofs.lemmas.List.Kept.{AllPairs-cons}
 use Rattle.std.proofs.lemmas.List.Quantifiers.{position-Some}
 use Rattle.std.proofs.lemmas.Option.{slice_get-get_or}
-use Rattle.gtfs_schema.specs.Values.{plain}
+use Rattle.gtfs_schema.specs.FieldValues.{plain}
 use Rattle.gtfs_schema.proofs.SiteFacts.{text_is}
 use Rattle.gtfs_rows.proofs.SameElements.{pairs-map}
 use Rattle.gtfs_rows.specs.Headsigns.{AddsOnly, AreDistinct, ArePlain, KeepsHeadsigns}

@@ -15,14 +15,14 @@ use Rattle.gtfs_table.specs.Rows.{is_row, records_in, rows, is_empty}
 use Rattle.gtfs_schema.specs.Columns.{columns_of}
 use Rattle.gtfs_schema.specs.KeyRules.{all_there, key_in, same_key, key_twice}
 use Rattle.gtfs_schema.specs.References.{reported_column}
-use Rattle.gtfs_schema.specs.Values.{Value, word, amount, value_eq, if_both}
+use Rattle.gtfs_schema.specs.FieldValues.{Value, word, amount, value_eq, if_both}
 use Rattle.gtfs_schema.proofs.EachFacts.{none_in_range}
 use Rattle.gtfs_schema.proofs.SiteFacts.{text_is, text_itself}
 use Rattle.gtfs_rows.specs.Cells.{Cell, are_cells}
 use Rattle.gtfs_rows.specs.Content.{Content}
 use Rattle.gtfs_rows.specs.RowCells.{cells_in, value_of_number, id_cell, week_list, agency_cells, stop_cells, route_cells, trip_cells, stop_time_cells, week_cells, exception_cells, frequency_cells, stop_times_of, weeks_of, exceptions_of, frequencies_of}
-use Rattle.gtfs_rows.specs.Sound.{IsSound}
-use Rattle.gtfs_rows.specs.Written.{written_beside}
+use Rattle.gtfs_rows.specs.SoundContent.{IsSound}
+use Rattle.gtfs_rows.specs.WrittenContent.{written_beside}
 use Rattle.gtfs_rows.proofs.FileRows.{row_index}
 use Rattle.gtfs_rows.proofs.Held.{apart_turned, held_pairs}
 use Rattle.gtfs_rows.proofs.Views.{rows_are, value_at, count_is}

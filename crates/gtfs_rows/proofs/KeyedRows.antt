@@ -11,7 +11,7 @@ use Rattle.std.proofs.lemmas.List.Elements.{Contains-get_or}
 use Rattle.std.proofs.lemmas.List.Kept.{AllPairs-cons}
 use Rattle.std.proofs.lemmas.List.{nil_from_length}
 use Rattle.gtfs_field.proofs.OrderingFacts.{equal as tie_from}
-use Rattle.gtfs_rows.specs.Order.{Ascends, by_key}
+use Rattle.gtfs_rows.specs.TransferOrder.{Ascends, by_key}
 use Rattle.gtfs_rows.proofs.SameElements.{contains-first, contains-later, contains-cases, contains-none, contains-from_map}
 
 pub no_entries : {K Z : Type 0} (R : K → K → Ordering) → table.entries (table.empty {X = Z} {R = R}) ≡ []

@@ -4,7 +4,7 @@ use Rattle.std.specs.Prelude.{is_some, option_and_then, option_map, ℤ, pos, un
 use Prim.Native.String.{String as Literal}
 use Rattle.std.proofs.lemmas.Bool.{and_parts}
 use Rattle.gtfs_schema.specs.Columns.{Kind, id, text, count, choice, time, date, colour, coordinate, optional}
-use Rattle.gtfs_schema.specs.Values.{Value, word, amount, as_word, as_amount}
+use Rattle.gtfs_schema.specs.FieldValues.{Value, word, amount, as_word, as_amount}
 use Rattle.gtfs_rows.specs.Cells.{is_between, is_of_kind, is_cell}
 use Rattle.gtfs_rows.specs.RowCells.{value_of_number}
 use Rattle.gtfs_rows.proofs.CellTexts.{natural_between}

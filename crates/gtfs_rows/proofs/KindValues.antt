@@ -20,7 +20,7 @@ use Rattle.gtfs_field.proofs.Dates.{day_number-low}
 use Rattle.gtfs_field.proofs.Numerals.{numerals}
 use Rattle.gtfs_table.specs.Rows.{is_empty}
 use Rattle.gtfs_schema.specs.Columns.{Kind, id, text, count, choice, time, date, colour, coordinate}
-use Rattle.gtfs_schema.specs.Values.{Value, word, amount, read_as, readable, has_control, plain, value_of_count, measured, one_of}
+use Rattle.gtfs_schema.specs.FieldValues.{Value, word, amount, read_as, readable, has_control, plain, value_of_count, measured, one_of}
 use Rattle.gtfs_rows.specs.Cells.{is_between, is_of_kind}
 use Rattle.gtfs_rows.proofs.CutTexts.{IsCut, id_filled, text_filled}
 

@@ -13,16 +13,16 @@ use Rattle.gtfs_table.proofs.BlankFacts.{no_text}
 use Rattle.gtfs_schema.specs.Columns.{columns_of, id}
 use Rattle.gtfs_schema.specs.KeyRules.{is_known, unknown_reference}
 use Rattle.gtfs_schema.specs.References.{stop_targets, route_targets, trip_targets}
-use Rattle.gtfs_schema.specs.Rows.{is_file, text_in, value_in, row_with}
-use Rattle.gtfs_schema.specs.Values.{word}
+use Rattle.gtfs_schema.specs.RowConditions.{is_file, text_in, value_in, row_with}
+use Rattle.gtfs_schema.specs.FieldValues.{word}
 use Rattle.gtfs_schema.proofs.SiteFacts.{text_itself}
 use Rattle.gtfs_rows.specs.Cells.{cell_text}
 use Rattle.gtfs_rows.specs.Content.{Content}
-use Rattle.gtfs_rows.specs.Named.{cell_named, text_named}
+use Rattle.gtfs_rows.specs.NamedCells.{cell_named, text_named}
 use Rattle.gtfs_rows.specs.RowCells.{agency_cells, stop_cells, route_cells, trip_cells, stop_time_cells, week_cells, exception_cells, frequency_cells, transfer_cells, id_cell, stop_times_of, weeks_of, exceptions_of, frequencies_of}
 use Rattle.gtfs_rows.specs.Rows.{Stop, Route, StopRow, Trip, Transfer}
-use Rattle.gtfs_rows.specs.Sound.{IsSound, has_ends, has_id, has_name_and_position, has_right_parent, if_given, is_end, is_sound_in, is_sound_period, is_sound_route, is_sound_service, is_sound_stop, is_sound_stop_row, is_sound_transfer, is_sound_trip, is_stop_of, keeps_time, leaves}
-use Rattle.gtfs_rows.specs.Written.{written_beside}
+use Rattle.gtfs_rows.specs.SoundContent.{IsSound, has_ends, has_id, has_name_and_position, has_right_parent, if_given, is_end, is_sound_in, is_sound_period, is_sound_route, is_sound_service, is_sound_stop, is_sound_stop_row, is_sound_transfer, is_sound_trip, is_stop_of, keeps_time, leaves}
+use Rattle.gtfs_rows.specs.WrittenContent.{written_beside}
 use Rattle.gtfs_rows.proofs.PeriodCodes.{period}
 use Rattle.gtfs_rows.proofs.ReferenceCodes.{known_in}
 use Rattle.gtfs_rows.proofs.RowTexts.{all_at}

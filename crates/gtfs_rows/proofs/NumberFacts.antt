@@ -17,9 +17,9 @@ use Rattle.gtfs_rows.specs.declared.route.Route.{Route}
 use Rattle.gtfs_rows.specs.declared.service.ServiceRow.{ServiceRow}
 use Rattle.gtfs_rows.specs.declared.stop.Stop.{Stop}
 use Rattle.gtfs_rows.specs.declared.trip.Trip.{Trip}
-use Rattle.gtfs_rows.specs.Order.{Ascends}
-use Rattle.gtfs_rows.specs.Sound.{if_given, is_sound_agency, is_sound_service, is_sound_week}
-use Rattle.gtfs_rows.specs.Views.{IsSoundParts, content_of_parts, agency_of, service_of, names_stop, trip_names_rows}
+use Rattle.gtfs_rows.specs.TransferOrder.{Ascends}
+use Rattle.gtfs_rows.specs.SoundContent.{if_given, is_sound_agency, is_sound_service, is_sound_week}
+use Rattle.gtfs_rows.specs.RowsInMemory.{IsSoundParts, content_of_parts, agency_of, service_of, names_stop, trip_names_rows}
 use Rattle.gtfs_rows.proofs.Held.{apart_turned}
 use Rattle.gtfs_rows.proofs.SameElements.{pairs-head, pairs-tail}
 use Rattle.gtfs_rows.proofs.ListFacts.{all_of}

@@ -16,13 +16,13 @@ use Rattle.gtfs_schema.specs.Columns.{id, text}
 use Rattle.gtfs_schema.specs.FileRules.{is_absent_state, is_not_utf8_state, is_read_state, is_read}
 use Rattle.gtfs_schema.specs.PresenceRules.{has_many_agencies, lacks_agency, lacks_name, first_zone, has_other_zone}
 use Rattle.gtfs_schema.specs.Problems.{Passes}
-use Rattle.gtfs_schema.specs.Rows.{text_in, value_in, word_in, is_readable_in, is_empty_in, row_with}
-use Rattle.gtfs_schema.specs.Values.{if_both}
+use Rattle.gtfs_schema.specs.RowConditions.{text_in, value_in, word_in, is_readable_in, is_empty_in, row_with}
+use Rattle.gtfs_schema.specs.FieldValues.{if_both}
 use Rattle.gtfs_schema.proofs.SiteFacts.{text_is, text_itself}
-use Rattle.gtfs_rows.specs.Order.{by_key}
-use Rattle.gtfs_rows.specs.Reading.{text_at, agency_in, first_agency, route_in, content_of}
+use Rattle.gtfs_rows.specs.TransferOrder.{by_key}
+use Rattle.gtfs_rows.specs.ContentRead.{text_at, agency_in, first_agency, route_in, content_of}
 use Rattle.gtfs_rows.specs.Rows.{Agency}
-use Rattle.gtfs_rows.specs.Sound.{has_id, is_sound_agency, is_sound_route}
+use Rattle.gtfs_rows.specs.SoundContent.{has_id, is_sound_agency, is_sound_route}
 use Rattle.gtfs_rows.proofs.ContentRows.{row_of, all_made}
 use Rattle.gtfs_rows.proofs.Held.{text_antisymmetric}
 use Rattle.gtfs_rows.proofs.KeyedRows.{stays, found_is}

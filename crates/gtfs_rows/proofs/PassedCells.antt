@@ -17,11 +17,11 @@ use Rattle.gtfs_table.specs.declared.file.File.TheVariants as file
 use Rattle.gtfs_schema.specs.Calendars.{week_in, exception_in, serves_weekday, field_number as signed_in}
 use Rattle.gtfs_schema.specs.Columns.{Kind, id, text, count, choice, time, date, colour, coordinate, column_named, columns_of, required, optional, defaulting, up_to, positive, route_types}
 use Rattle.gtfs_schema.specs.Problems.{Passes}
-use Rattle.gtfs_schema.specs.Rows.{word_in}
-use Rattle.gtfs_schema.specs.Values.{Value, word, amount, as_word}
+use Rattle.gtfs_schema.specs.RowConditions.{word_in}
+use Rattle.gtfs_schema.specs.FieldValues.{Value, word, amount, as_word}
 use Rattle.gtfs_rows.specs.Cells.{is_clean, is_of_kind, is_cell, are_cells}
-use Rattle.gtfs_rows.specs.Order.{transfer_key, transfer_key_cmp}
-use Rattle.gtfs_rows.specs.Reading.{text_at, number_in, number_at, agency_in, stop_in, first_agency, route_in, stop_row_in, frequency_in, trip_in, transfer_in, content_of}
+use Rattle.gtfs_rows.specs.TransferOrder.{transfer_key, transfer_key_cmp}
+use Rattle.gtfs_rows.specs.ContentRead.{text_at, number_in, number_at, agency_in, stop_in, first_agency, route_in, stop_row_in, frequency_in, trip_in, transfer_in, content_of}
 use Rattle.gtfs_rows.specs.RowCells.{value_of_number, id_cell, flag, exception_number, cells_in, agency_cells, stop_cells, route_cells, trip_cells, stop_time_cells, week_cells, exception_cells, frequency_cells, transfer_cells, stop_times_of, weeks_of, exceptions_of, frequencies_of}
 use Rattle.gtfs_rows.proofs.ContentAgain.{transfer_total}
 use Rattle.gtfs_rows.proofs.ContentRows.{row_of, all_made, NamesTrip, NamesService, stop_time_made, frequency_made, week_made, exception_made}

@@ -13,13 +13,13 @@ use Rattle.gtfs_schema.specs.declared.code.Code.TheVariants as code
 use Rattle.gtfs_schema.specs.Columns.{time}
 use Rattle.gtfs_schema.specs.PeriodRules.{period_start, period_end, ends_at_start, share_second, periods_meet, overlaps_earlier}
 use Rattle.gtfs_schema.specs.Problems.{Passes}
-use Rattle.gtfs_schema.specs.Rows.{word_in}
-use Rattle.gtfs_schema.specs.Values.{if_there, if_both, is_word}
+use Rattle.gtfs_schema.specs.RowConditions.{word_in}
+use Rattle.gtfs_schema.specs.FieldValues.{if_there, if_both, is_word}
 use Rattle.gtfs_schema.proofs.SiteFacts.{text_itself}
-use Rattle.gtfs_rows.specs.Order.{by_key}
-use Rattle.gtfs_rows.specs.Reading.{number_at, frequency_in, rows_of}
+use Rattle.gtfs_rows.specs.TransferOrder.{by_key}
+use Rattle.gtfs_rows.specs.ContentRead.{number_at, frequency_in, rows_of}
 use Rattle.gtfs_rows.specs.Rows.{Frequency}
-use Rattle.gtfs_rows.specs.Sound.{are_apart, is_sound_period}
+use Rattle.gtfs_rows.specs.SoundContent.{are_apart, is_sound_period}
 use Rattle.gtfs_rows.proofs.ContentRows.{NamesTrip, period_made}
 use Rattle.gtfs_rows.proofs.KeyedRows.{all_from}
 use Rattle.gtfs_rows.proofs.PassedReferences.{after, no_error}

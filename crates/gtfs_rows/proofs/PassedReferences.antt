@@ -22,15 +22,15 @@ use Rattle.gtfs_schema.specs.Columns.{id, column_named, required, up_to}
 use Rattle.gtfs_schema.specs.KeyRules.{is_known}
 use Rattle.gtfs_schema.specs.Problems.{Passes, holds_in, kept}
 use Rattle.gtfs_schema.specs.References.{references}
-use Rattle.gtfs_schema.specs.Rows.{is_file, text_in, value_in, word_in, choice_in, row_with}
+use Rattle.gtfs_schema.specs.RowConditions.{is_file, text_in, value_in, word_in, choice_in, row_with}
 use Rattle.gtfs_schema.specs.StopRules.{names_none_of}
-use Rattle.gtfs_schema.specs.Values.{if_there, is_one_of}
+use Rattle.gtfs_schema.specs.FieldValues.{if_there, is_one_of}
 use Rattle.gtfs_schema.proofs.BoolFacts.{same_test}
 use Rattle.gtfs_schema.proofs.SiteFacts.{text_is, text_itself}
-use Rattle.gtfs_rows.specs.Order.{by_key}
-use Rattle.gtfs_rows.specs.Reading.{text_at, number_at, stop_in, agency_in, route_in, trip_in, services_named, service_row_in, content_of}
+use Rattle.gtfs_rows.specs.TransferOrder.{by_key}
+use Rattle.gtfs_rows.specs.ContentRead.{text_at, number_at, stop_in, agency_in, route_in, trip_in, services_named, service_row_in, content_of}
 use Rattle.gtfs_rows.specs.Rows.{Stop}
-use Rattle.gtfs_rows.specs.Sound.{has_id, is_stop_of}
+use Rattle.gtfs_rows.specs.SoundContent.{has_id, is_stop_of}
 use Rattle.gtfs_rows.proofs.ContentRows.{row_of}
 use Rattle.gtfs_rows.proofs.PassedCells.{digit_cut}
 use Rattle.gtfs_rows.proofs.Held.{text_antisymmetric}

@@ -15,14 +15,14 @@ use Rattle.gtfs_schema.specs.declared.code.Code.TheVariants as code
 use Rattle.gtfs_schema.specs.Calendars.{service_rows, first_service_row, week_in, exception_in, field_number}
 use Rattle.gtfs_schema.specs.Columns.{id, date, column_named, required}
 use Rattle.gtfs_schema.specs.Problems.{Passes}
-use Rattle.gtfs_schema.specs.Rows.{word_in}
+use Rattle.gtfs_schema.specs.RowConditions.{word_in}
 use Rattle.gtfs_schema.specs.ServiceRules.{ends_before_start}
-use Rattle.gtfs_schema.specs.Values.{is_word, if_both}
+use Rattle.gtfs_schema.specs.FieldValues.{is_word, if_both}
 use Rattle.gtfs_schema.proofs.SiteFacts.{text_itself}
-use Rattle.gtfs_rows.specs.Order.{by_key}
-use Rattle.gtfs_rows.specs.Reading.{text_at, services_named, service_row_in, content_of}
+use Rattle.gtfs_rows.specs.TransferOrder.{by_key}
+use Rattle.gtfs_rows.specs.ContentRead.{text_at, services_named, service_row_in, content_of}
 use Rattle.gtfs_rows.specs.Rows.{ServiceRow}
-use Rattle.gtfs_rows.specs.Sound.{if_given, is_sound_week, is_sound_service}
+use Rattle.gtfs_rows.specs.SoundContent.{if_given, is_sound_week, is_sound_service}
 use Rattle.gtfs_rows.proofs.ContentRows.{row_of, service_made}
 use Rattle.gtfs_rows.proofs.KeyedRows.{all_from, found_is, stays}
 use Rattle.gtfs_rows.proofs.PassedAgencies.{nonempty, not_missed}

@@ -15,14 +15,14 @@ use Rattle.gtfs_schema.specs.declared.code.Code.TheVariants as code
 use Rattle.gtfs_schema.specs.Columns.{count, time, column_named, optional}
 use Rattle.gtfs_schema.specs.KeyRules.{all_there, key_in, same_key}
 use Rattle.gtfs_schema.specs.Problems.{Passes}
-use Rattle.gtfs_schema.specs.Rows.{value_in, amount_in, is_readable_in, is_empty_in}
+use Rattle.gtfs_schema.specs.RowConditions.{value_in, amount_in, is_readable_in, is_empty_in}
 use Rattle.gtfs_schema.specs.TripRules.{sequence_in, is_row_of, rows_of_trip, is_less, is_earlier_equal, stands_before, leaves_early, is_clear, arrival_in, departure_in, timed_rows, is_timed_before, goes_back}
-use Rattle.gtfs_schema.specs.Values.{word, value_eq, if_there, if_both, is_word}
+use Rattle.gtfs_schema.specs.FieldValues.{word, value_eq, if_there, if_both, is_word}
 use Rattle.gtfs_schema.proofs.SiteFacts.{text_itself}
 use Rattle.gtfs_schema.proofs.ValueFacts.{word_value}
-use Rattle.gtfs_rows.specs.Reading.{number_in, number_at, stop_row_in}
+use Rattle.gtfs_rows.specs.ContentRead.{number_in, number_at, stop_row_in}
 use Rattle.gtfs_rows.specs.RowCells.{value_of_number}
-use Rattle.gtfs_rows.specs.Sound.{comes, leaves, keeps_time}
+use Rattle.gtfs_rows.specs.SoundContent.{comes, leaves, keeps_time}
 use Rattle.gtfs_rows.proofs.ContentRows.{NamesTrip, names_word}
 use Rattle.gtfs_rows.proofs.PassedReferences.{after, no_error}
 use Rattle.gtfs_rows.proofs.PassedValues.{number_is, number_value, number_if_there, there_if_filled}

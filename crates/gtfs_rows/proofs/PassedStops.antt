@@ -16,14 +16,14 @@ use Rattle.gtfs_schema.specs.declared.code.Code.TheVariants as code
 use Rattle.gtfs_schema.specs.Columns.{id, text, coordinate, up_to}
 use Rattle.gtfs_schema.specs.PresenceRules.{is_of_type, lacks_name_or_position, has_wrong_parent}
 use Rattle.gtfs_schema.specs.Problems.{Passes}
-use Rattle.gtfs_schema.specs.Rows.{text_in, value_in, word_in, amount_in, choice_in, is_readable_in, is_empty_in, row_with}
+use Rattle.gtfs_schema.specs.RowConditions.{text_in, value_in, word_in, amount_in, choice_in, is_readable_in, is_empty_in, row_with}
 use Rattle.gtfs_schema.specs.StopRules.{names_none_of, has_parent_of_other_type}
-use Rattle.gtfs_schema.specs.Values.{if_there, is_count_between, is_one_of}
+use Rattle.gtfs_schema.specs.FieldValues.{if_there, is_count_between, is_one_of}
 use Rattle.gtfs_rows.specs.Cells.{is_of_kind, is_between as lies_between}
 use Rattle.gtfs_rows.specs.Content.{Content}
-use Rattle.gtfs_rows.specs.Reading.{number_at, stop_in, content_of}
+use Rattle.gtfs_rows.specs.ContentRead.{number_at, stop_in, content_of}
 use Rattle.gtfs_rows.specs.RowCells.{value_of_number}
-use Rattle.gtfs_rows.specs.Sound.{is_stop_of, has_name_and_position, has_right_parent, is_sound_stop}
+use Rattle.gtfs_rows.specs.SoundContent.{is_stop_of, has_name_and_position, has_right_parent, is_sound_stop}
 use Rattle.gtfs_rows.proofs.ContentRows.{row_of, all_made}
 use Rattle.gtfs_rows.proofs.PassedAgencies.{filled_some}
 use Rattle.gtfs_rows.proofs.PassedCells.{digit_cut}

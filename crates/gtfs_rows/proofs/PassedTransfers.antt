@@ -11,12 +11,12 @@ use Rattle.gtfs_schema.specs.declared.code.Code.TheVariants as code
 use Rattle.gtfs_schema.specs.Columns.{id, column_named, optional, up_to}
 use Rattle.gtfs_schema.specs.PresenceRules.{lacks_end}
 use Rattle.gtfs_schema.specs.Problems.{Passes}
-use Rattle.gtfs_schema.specs.Rows.{text_in, value_in, word_in, is_empty_in, row_with}
+use Rattle.gtfs_schema.specs.RowConditions.{text_in, value_in, word_in, is_empty_in, row_with}
 use Rattle.gtfs_schema.specs.StopRules.{names_none_of}
-use Rattle.gtfs_schema.specs.Values.{if_there, is_count_between}
-use Rattle.gtfs_rows.specs.Order.{transfer_key, transfer_key_cmp}
-use Rattle.gtfs_rows.specs.Reading.{number_at, transfer_in, content_of}
-use Rattle.gtfs_rows.specs.Sound.{has_id, if_given, is_stop_of, has_ends, is_sound_transfer}
+use Rattle.gtfs_schema.specs.FieldValues.{if_there, is_count_between}
+use Rattle.gtfs_rows.specs.TransferOrder.{transfer_key, transfer_key_cmp}
+use Rattle.gtfs_rows.specs.ContentRead.{number_at, transfer_in, content_of}
+use Rattle.gtfs_rows.specs.SoundContent.{has_id, if_given, is_stop_of, has_ends, is_sound_transfer}
 use Rattle.gtfs_rows.proofs.ContentAgain.{transfer_total}
 use Rattle.gtfs_rows.proofs.ContentRows.{row_of, all_made}
 use Rattle.gtfs_rows.proofs.PassedCells.{digit_cut}

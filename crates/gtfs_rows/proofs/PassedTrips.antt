@@ -18,15 +18,15 @@ use Rattle.gtfs_table.specs.declared.file.File.TheVariants as file
 use Rattle.gtfs_schema.specs.declared.code.Code.TheVariants as code
 use Rattle.gtfs_schema.specs.Columns.{id, time, column_named, required, optional}
 use Rattle.gtfs_schema.specs.Problems.{Passes}
-use Rattle.gtfs_schema.specs.Rows.{text_in, value_in, word_in, amount_in, is_empty_in, row_with}
+use Rattle.gtfs_schema.specs.RowConditions.{text_in, value_in, word_in, amount_in, is_empty_in, row_with}
 use Rattle.gtfs_schema.specs.StopRules.{names_none_of}
 use Rattle.gtfs_schema.specs.TripRules.{rows_of_trip, stands_before, is_less, is_earlier_equal, is_first_row, is_last_row, is_end_untimed}
-use Rattle.gtfs_schema.specs.Values.{if_there, is_word}
+use Rattle.gtfs_schema.specs.FieldValues.{if_there, is_word}
 use Rattle.gtfs_schema.proofs.SiteFacts.{text_itself}
-use Rattle.gtfs_rows.specs.Order.{by_key}
-use Rattle.gtfs_rows.specs.Reading.{text_at, number_in, number_at, stop_row_in, rows_of, trip_in, content_of}
+use Rattle.gtfs_rows.specs.TransferOrder.{by_key}
+use Rattle.gtfs_rows.specs.ContentRead.{text_at, number_in, number_at, stop_row_in, rows_of, trip_in, content_of}
 use Rattle.gtfs_rows.specs.Rows.{StopRow}
-use Rattle.gtfs_rows.specs.Sound.{has_id, is_stop_of, leaves, keeps_time, is_end, is_sound_in, is_sound_trip}
+use Rattle.gtfs_rows.specs.SoundContent.{has_id, is_stop_of, leaves, keeps_time, is_end, is_sound_in, is_sound_trip}
 use Rattle.gtfs_rows.proofs.ContentRows.{row_of, all_made, NamesTrip, stop_row_made}
 use Rattle.gtfs_rows.proofs.KeyedRows.{all_from, stays}
 use Rattle.gtfs_rows.proofs.PassedPeriods.{periods_sound}

@@ -14,12 +14,12 @@ use Rattle.gtfs_schema.specs.Calendars.{field_number as signed_in}
 use Rattle.gtfs_schema.specs.Columns.{Kind, id, Column, column_named, required, optional, defaulting}
 use Rattle.gtfs_schema.specs.Problems.{Passes}
 use Rattle.gtfs_schema.specs.ReadRules.{IsReadUnder}
-use Rattle.gtfs_schema.specs.Rows.{text_in, value_in, word_in, amount_in, choice_in, is_empty_in}
-use Rattle.gtfs_schema.specs.Values.{Value, word, amount, as_word, as_amount, has_control, readable, meaning}
+use Rattle.gtfs_schema.specs.RowConditions.{text_in, value_in, word_in, amount_in, choice_in, is_empty_in}
+use Rattle.gtfs_schema.specs.FieldValues.{Value, word, amount, as_word, as_amount, has_control, readable, meaning}
 use Rattle.gtfs_schema.proofs.ReadFacts.{passes_read}
 use Rattle.gtfs_schema.proofs.ValueFacts.{word_value}
 use Rattle.gtfs_rows.specs.Cells.{is_of_kind, is_cell}
-use Rattle.gtfs_rows.specs.Reading.{text_at, number_in, number_at}
+use Rattle.gtfs_rows.specs.ContentRead.{text_at, number_in, number_at}
 use Rattle.gtfs_rows.specs.RowCells.{value_of_number}
 use Rattle.gtfs_rows.proofs.CutTexts.{IsCut, text-is_cut}
 use Rattle.gtfs_rows.proofs.KindValues.{value_of_kind}

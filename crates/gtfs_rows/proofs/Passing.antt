@@ -4,7 +4,7 @@ use Rattle.std.proofs.lemmas.Bool.{and_left}
 use Rattle.gtfs_table.specs.declared.file.File.{File}
 use Rattle.gtfs_table.specs.declared.file.File.TheVariants as file
 use Rattle.gtfs_table.specs.Tables.{table_of, table_records}
-use Rattle.gtfs_table.specs.Written.{is_marked}
+use Rattle.gtfs_table.specs.TableTexts.{is_marked}
 use Rattle.gtfs_schema.specs.declared.code.Code.{Code}
 use Rattle.gtfs_schema.specs.declared.code.Code.TheVariants as code
 use Rattle.gtfs_schema.specs.Codes.{is_error}
@@ -13,8 +13,8 @@ use Rattle.gtfs_schema.specs.KeyRules.{key_twice}
 use Rattle.gtfs_schema.specs.Problems.{FileName, kept, other, holds_in, holds, is_code, Passes}
 use Rattle.gtfs_rows.specs.Content.{Content}
 use Rattle.gtfs_rows.specs.RowCells.{cells_in}
-use Rattle.gtfs_rows.specs.Sound.{IsSound}
-use Rattle.gtfs_rows.specs.Written.{written, written_beside}
+use Rattle.gtfs_rows.specs.SoundContent.{IsSound}
+use Rattle.gtfs_rows.specs.WrittenContent.{written, written_beside}
 use Rattle.gtfs_rows.specs.WrittenForm.{IsWrittenForm}
 use Rattle.gtfs_rows.proofs.ContentAgain.{content_again}
 use Rattle.gtfs_rows.proofs.FileCodes.{no_file_missing, no_not_utf8, no_column_missing, no_column_twice, no_file_empty, no_end_before_start}

@@ -1,8 +1,8 @@
 -- The content of a dataset that passes makes a feed.
 use Rattle.gtfs_table.specs.Tables.{Dataset}
 use Rattle.gtfs_schema.specs.Problems.{Passes}
-use Rattle.gtfs_rows.specs.Reading.{content_of}
-use Rattle.gtfs_rows.specs.Sound.{IsSound}
+use Rattle.gtfs_rows.specs.ContentRead.{content_of}
+use Rattle.gtfs_rows.specs.SoundContent.{IsSound}
 use Rattle.gtfs_rows.proofs.ContentRows.{content_in_order}
 use Rattle.gtfs_rows.proofs.PassedAgencies.{has_agency, agencies_sound, routes_sound}
 use Rattle.gtfs_rows.proofs.PassedCells.{cells_fit}

@@ -11,15 +11,15 @@ use Rattle.gtfs_table.specs.declared.file.File.{File}
 use Rattle.gtfs_table.specs.declared.file.File.TheVariants as file
 use Rattle.gtfs_table.specs.Rows.{rows}
 use Rattle.gtfs_schema.specs.PeriodRules as rule
-use Rattle.gtfs_schema.specs.Rows.{word_in}
-use Rattle.gtfs_schema.specs.Values.{if_there, if_both, is_word}
+use Rattle.gtfs_schema.specs.RowConditions.{word_in}
+use Rattle.gtfs_schema.specs.FieldValues.{if_there, if_both, is_word}
 use Rattle.gtfs_schema.proofs.EachFacts.{none_in_range}
 use Rattle.gtfs_schema.proofs.SiteFacts.{text_is, text_itself}
 use Rattle.gtfs_rows.specs.Content.{Content}
 use Rattle.gtfs_rows.specs.RowCells.{frequency_cells, frequencies_of}
 use Rattle.gtfs_rows.specs.Rows.{Frequency, Trip}
-use Rattle.gtfs_rows.specs.Sound.{IsSound, are_apart, is_sound_period, is_sound_trip, is_sound_in, has_id}
-use Rattle.gtfs_rows.specs.Written.{written_beside}
+use Rattle.gtfs_rows.specs.SoundContent.{IsSound, are_apart, is_sound_period, is_sound_trip, is_sound_in, has_id}
+use Rattle.gtfs_rows.specs.WrittenContent.{written_beside}
 use Rattle.gtfs_rows.proofs.Held.{held_at, held_member, held_pairs}
 use Rattle.gtfs_rows.proofs.TripCodes.{contained}
 use Rattle.gtfs_rows.proofs.RowTexts.{all_at}

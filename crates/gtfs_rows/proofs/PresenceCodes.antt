@@ -9,13 +9,13 @@ use Rattle.gtfs_table.specs.declared.file.File.{File}
 use Rattle.gtfs_table.specs.declared.file.File.TheVariants as file
 use Rattle.gtfs_table.specs.Rows.{is_empty}
 use Rattle.gtfs_schema.specs.PresenceRules.{has_many_agencies, has_wrong_parent, is_choice, lacks_agency, lacks_end, lacks_name, lacks_name_or_position, value_missing_or_forbidden}
-use Rattle.gtfs_schema.specs.Rows.{is_empty_in, is_readable_in}
-use Rattle.gtfs_schema.specs.Values.{Value, word, amount, if_there}
+use Rattle.gtfs_schema.specs.RowConditions.{is_empty_in, is_readable_in}
+use Rattle.gtfs_schema.specs.FieldValues.{Value, word, amount, if_there}
 use Rattle.gtfs_rows.specs.Content.{Content}
 use Rattle.gtfs_rows.specs.RowCells.{agency_cells, route_cells, stop_cells, transfer_cells, id_cell, value_of_number}
 use Rattle.gtfs_rows.specs.Rows.{Agency, Route, Stop, Transfer}
-use Rattle.gtfs_rows.specs.Sound.{IsSound, has_ends, has_id, has_name_and_position, has_right_parent, is_sound_agency, is_sound_route, is_sound_stop, is_sound_transfer}
-use Rattle.gtfs_rows.specs.Written.{written_beside}
+use Rattle.gtfs_rows.specs.SoundContent.{IsSound, has_ends, has_id, has_name_and_position, has_right_parent, is_sound_agency, is_sound_route, is_sound_stop, is_sound_transfer}
+use Rattle.gtfs_rows.specs.WrittenContent.{written_beside}
 use Rattle.gtfs_rows.proofs.ContentAgain.{only_agency}
 use Rattle.gtfs_rows.proofs.RowTexts.{all_at}
 use Rattle.gtfs_rows.proofs.Views.{choice_from, empty_at, no_told, rows_are, value_at}

@@ -11,18 +11,18 @@ use Rattle.gtfs_table.specs.declared.file.File.{File}
 use Rattle.gtfs_table.specs.declared.file.File.TheVariants as file
 use Rattle.gtfs_table.specs.Rows.{is_empty}
 use Rattle.gtfs_schema.specs.Columns.{columns_of}
-use Rattle.gtfs_schema.specs.Rows.{text_in, word_in, choice_in, row_with}
+use Rattle.gtfs_schema.specs.RowConditions.{text_in, word_in, choice_in, row_with}
 use Rattle.gtfs_schema.specs.StopRules.{names_none_of, has_parent_of_other_type, wrong_kind_of_stop}
-use Rattle.gtfs_schema.specs.Values.{if_there, is_one_of}
+use Rattle.gtfs_schema.specs.FieldValues.{if_there, is_one_of}
 use Rattle.gtfs_schema.proofs.BoolFacts.{same_test}
 use Rattle.gtfs_rows.specs.Cells.{Cell, are_cells}
 use Rattle.gtfs_rows.specs.Content.{Content}
-use Rattle.gtfs_rows.specs.Named.{text_named}
+use Rattle.gtfs_rows.specs.NamedCells.{text_named}
 use Rattle.gtfs_rows.specs.RowCells.{cells_in, transfer_cells, stop_cells, stop_time_cells, stop_times_of, value_of_number}
 use Rattle.gtfs_rows.specs.Rows.{Stop, StopRow, Transfer}
 use Rattle.gtfs_rows.proofs.RowTexts.{all_at}
-use Rattle.gtfs_rows.specs.Sound.{IsSound, has_name_and_position, has_right_parent, is_sound_stop, if_given, has_id, is_stop_of, is_sound_transfer, is_sound_stop_row, is_end, leaves, keeps_time}
-use Rattle.gtfs_rows.specs.Written.{written_beside}
+use Rattle.gtfs_rows.specs.SoundContent.{IsSound, has_name_and_position, has_right_parent, is_sound_stop, if_given, has_id, is_stop_of, is_sound_transfer, is_sound_stop_row, is_end, leaves, keeps_time}
+use Rattle.gtfs_rows.specs.WrittenContent.{written_beside}
 use Rattle.gtfs_rows.proofs.RangeLists.{find_range, some_range}
 use Rattle.gtfs_rows.proofs.TripCodes.{stop_time}
 use Rattle.gtfs_rows.proofs.Views.{rows_are, value_at, text_at', word_at, choice_from, no_told}

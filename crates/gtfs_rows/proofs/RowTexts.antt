@@ -12,12 +12,12 @@ use Rattle.gtfs_table.specs.declared.file.File.TheVariants as file
 use Rattle.gtfs_table.proofs.ValueFacts.{next-record}
 use Rattle.gtfs_table.specs.Rows.{records_in, is_empty}
 use Rattle.gtfs_schema.specs.Columns.{Column, columns_of, column_named}
-use Rattle.gtfs_schema.specs.Rows.{text_in, value_in}
-use Rattle.gtfs_schema.specs.Values.{readable}
+use Rattle.gtfs_schema.specs.RowConditions.{text_in, value_in}
+use Rattle.gtfs_schema.specs.FieldValues.{readable}
 use Rattle.gtfs_schema.proofs.SiteFacts.{text_is}
 use Rattle.gtfs_rows.specs.Cells.{Cell, is_cell, are_cells, cell_text, record_text}
-use Rattle.gtfs_rows.specs.Named.{cell_named, text_named}
-use Rattle.gtfs_rows.specs.Written.{records_of_cells, dataset_of_cells}
+use Rattle.gtfs_rows.specs.NamedCells.{cell_named, text_named}
+use Rattle.gtfs_rows.specs.WrittenContent.{records_of_cells, dataset_of_cells}
 use Rattle.gtfs_rows.proofs.CellTexts.{writes_value, readable_value}
 use Rattle.gtfs_rows.proofs.Visible.{cut-visible}
 

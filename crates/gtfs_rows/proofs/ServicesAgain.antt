@@ -19,17 +19,17 @@ use Rattle.gtfs_table.specs.declared.file.File.TheVariants as file
 use Rattle.gtfs_table.specs.Rows.{rows, is_empty}
 use Rattle.gtfs_schema.specs.Calendars.{service_rows, first_service_row, field_number, serves_weekday, week_in, exception_in}
 use Rattle.gtfs_schema.specs.Columns.{Column, columns_of}
-use Rattle.gtfs_schema.specs.Rows.{word_in}
-use Rattle.gtfs_schema.specs.Values.{is_word, amount, word}
-use Rattle.gtfs_rows.specs.Named.{cell_named}
+use Rattle.gtfs_schema.specs.RowConditions.{word_in}
+use Rattle.gtfs_schema.specs.FieldValues.{is_word, amount, word}
+use Rattle.gtfs_rows.specs.NamedCells.{cell_named}
 use Rattle.gtfs_rows.specs.Cells.{Cell, are_cells, is_cell}
 use Rattle.gtfs_rows.specs.Content.{Content}
-use Rattle.gtfs_rows.specs.Order.{by_key}
-use Rattle.gtfs_rows.specs.Reading.{text_at, services_named, service_row_in}
+use Rattle.gtfs_rows.specs.TransferOrder.{by_key}
+use Rattle.gtfs_rows.specs.ContentRead.{text_at, services_named, service_row_in}
 use Rattle.gtfs_rows.specs.RowCells.{cells_in, flag, week_cells, exception_cells, exception_number, week_list, weeks_of, exceptions_of, held_by}
 use Rattle.gtfs_rows.specs.Rows.{ServiceRow}
-use Rattle.gtfs_rows.specs.Sound.{IsSound, is_sound_service, is_sound_week, if_given}
-use Rattle.gtfs_rows.specs.Written.{written_beside}
+use Rattle.gtfs_rows.specs.SoundContent.{IsSound, is_sound_service, is_sound_week, if_given}
+use Rattle.gtfs_rows.specs.WrittenContent.{written_beside}
 use Rattle.gtfs_rows.proofs.ByKey.{by_key_map}
 use Rattle.gtfs_rows.proofs.Held.{text_antisymmetric, held_at, held_member, held_has}
 use Rattle.gtfs_rows.proofs.RangeLists.{map_range, map_filter_range, find_range}

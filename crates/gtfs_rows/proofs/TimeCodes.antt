@@ -8,13 +8,13 @@ use Rattle.std.proofs.lemmas.Bool.{and_parts, and_left, and_right, or_cases, cas
 use Rattle.gtfs_table.specs.declared.file.File.{File}
 use Rattle.gtfs_table.specs.declared.file.File.TheVariants as file
 use Rattle.gtfs_schema.specs.TripRules as rule
-use Rattle.gtfs_schema.specs.Values.{if_there, if_both}
+use Rattle.gtfs_schema.specs.FieldValues.{if_there, if_both}
 use Rattle.gtfs_schema.proofs.SiteFacts.{text_is, text_itself}
 use Rattle.gtfs_rows.specs.Content.{Content}
 use Rattle.gtfs_rows.specs.RowCells.{stop_time_cells, stop_times_of}
 use Rattle.gtfs_rows.specs.Rows.{StopRow}
-use Rattle.gtfs_rows.specs.Sound.{IsSound, comes, leaves, is_sound_stop_row, keeps_time, is_end}
-use Rattle.gtfs_rows.specs.Written.{written_beside}
+use Rattle.gtfs_rows.specs.SoundContent.{IsSound, comes, leaves, is_sound_stop_row, keeps_time, is_end}
+use Rattle.gtfs_rows.specs.WrittenContent.{written_beside}
 use Rattle.gtfs_rows.proofs.Held.{held_at, held_pairs}
 use Rattle.gtfs_rows.proofs.RangeLists.{none_filter_range}
 use Rattle.gtfs_rows.proofs.TripCodes.{contained, there_number, none_kept, less_apart, IsStopTime, stop_time, arrives_at, departs_at, sequence_at, trip_at, keeps, kept_at, less_at}

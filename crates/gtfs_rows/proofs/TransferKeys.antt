@@ -10,17 +10,17 @@ use Rattle.gtfs_table.specs.declared.file.File.TheVariants as file
 use Rattle.gtfs_table.specs.Rows.{is_empty}
 use Rattle.gtfs_schema.specs.Columns.{columns_of, column_named, optional, id}
 use Rattle.gtfs_schema.specs.KeyRules.{all_there, key_part, key_in, key_twice}
-use Rattle.gtfs_schema.specs.Rows.{value_in, is_empty_in}
-use Rattle.gtfs_schema.specs.Values.{Value, word, value_eq, if_both}
+use Rattle.gtfs_schema.specs.RowConditions.{value_in, is_empty_in}
+use Rattle.gtfs_schema.specs.FieldValues.{Value, word, value_eq, if_both}
 use Rattle.gtfs_schema.proofs.SiteFacts.{text_is}
 use Rattle.gtfs_rows.specs.Cells.{are_cells, is_cell, is_clean}
 use Rattle.gtfs_rows.specs.Content.{Content}
-use Rattle.gtfs_rows.specs.Named.{cell_named}
-use Rattle.gtfs_rows.specs.Order.{transfer_key, transfer_key_cmp}
+use Rattle.gtfs_rows.specs.NamedCells.{cell_named}
+use Rattle.gtfs_rows.specs.TransferOrder.{transfer_key, transfer_key_cmp}
 use Rattle.gtfs_rows.specs.RowCells.{transfer_cells}
 use Rattle.gtfs_rows.specs.Rows.{Transfer}
-use Rattle.gtfs_rows.specs.Sound.{IsSound, if_given}
-use Rattle.gtfs_rows.specs.Written.{written_beside}
+use Rattle.gtfs_rows.specs.SoundContent.{IsSound, if_given}
+use Rattle.gtfs_rows.specs.WrittenContent.{written_beside}
 use Rattle.gtfs_rows.proofs.ContentAgain.{transfer_total}
 use Rattle.gtfs_rows.proofs.KeyCodes.{no_repeat}
 use Rattle.gtfs_rows.proofs.Views.{cells_ok, value_at, empty_at}

@@ -4,13 +4,13 @@ use Rattle.std.specs.Prelude.{◌&&◌, nat_lt}
 use Rattle.std.specs.List.{list_all}
 use Rattle.std.proofs.lemmas.List.{length-map}
 use Rattle.std.proofs.lemmas.Simd.{map-map}
-use Rattle.gtfs_table.specs.Parts.{parts}
+use Rattle.gtfs_table.specs.FieldOffsets.{parts}
 use Rattle.gtfs_days.specs.Cut.{cut_day}
 use Rattle.gtfs_days.specs.Service.{is_service_day}
 use Rattle.gtfs_days.specs.declared.cut.Cut.{Cut}
-use Rattle.gtfs_rows.specs.Sound.{IsSound}
-use Rattle.gtfs_rows.specs.Trimmed.{trimmed, trimmed_by_number, trimmed_parts, trimmed_row}
-use Rattle.gtfs_rows.specs.Views.{IsSoundParts, content_of_parts, service_of, service_ids, text_of_number, trips_of, trip_of}
+use Rattle.gtfs_rows.specs.SoundContent.{IsSound}
+use Rattle.gtfs_rows.specs.TrimmedContent.{trimmed, trimmed_by_number, trimmed_parts, trimmed_row}
+use Rattle.gtfs_rows.specs.RowsInMemory.{IsSoundParts, content_of_parts, service_of, service_ids, text_of_number, trips_of, trip_of}
 use Rattle.gtfs_rows.specs.declared.frequency.Frequency.{Frequency}
 use Rattle.gtfs_rows.specs.declared.parts.Parts.{Parts}
 use Rattle.gtfs_rows.specs.declared.service.ServiceRow.{ServiceRow}

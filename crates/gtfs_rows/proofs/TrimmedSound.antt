@@ -20,14 +20,14 @@ use Rattle.gtfs_days.specs.declared.week.Week.{Week}
 use Rattle.gtfs_table.specs.declared.file.File.{File}
 use Rattle.gtfs_table.specs.declared.file.File.TheVariants as file
 use Rattle.gtfs_schema.specs.Columns.{Column, columns_of}
-use Rattle.gtfs_schema.specs.Values.{amount}
+use Rattle.gtfs_schema.specs.FieldValues.{amount}
 use Rattle.gtfs_rows.specs.Cells.{Cell, are_cells, is_between, is_cell, is_filled}
 use Rattle.gtfs_rows.specs.Content.{Content}
-use Rattle.gtfs_rows.specs.Order.{Ascends}
+use Rattle.gtfs_rows.specs.TransferOrder.{Ascends}
 use Rattle.gtfs_rows.specs.RowCells.{cells_in, exception_cells, exceptions_of, flag, week_cells, week_list, weeks_of}
 use Rattle.gtfs_rows.specs.Rows.{ServiceRow}
-use Rattle.gtfs_rows.specs.Sound.{IsInOrder, IsSound, has_id, if_given, is_sound_in, is_sound_period, is_sound_service, is_sound_trip, is_sound_week}
-use Rattle.gtfs_rows.specs.Trimmed.{trimmed, trimmed_row}
+use Rattle.gtfs_rows.specs.SoundContent.{IsInOrder, IsSound, has_id, if_given, is_sound_in, is_sound_period, is_sound_service, is_sound_trip, is_sound_week}
+use Rattle.gtfs_rows.specs.TrimmedContent.{trimmed, trimmed_row}
 use Rattle.gtfs_rows.proofs.Members.{In, In-filter, In-held, In-map, all-In, all-cells, all-from, cells-at, held-In, list_all-In, list_all-from}
 use Rattle.gtfs_rows.proofs.SameElements.{pairs-map}
 

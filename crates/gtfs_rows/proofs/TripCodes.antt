@@ -14,18 +14,18 @@ use Rattle.gtfs_table.specs.declared.file.File.TheVariants as file
 use Prim.Native.String.{String as Literal}
 use Rattle.gtfs_field.proofs.ListFacts.{any_mapped}
 use Rattle.gtfs_schema.specs.Columns.{columns_of, column_named}
-use Rattle.gtfs_schema.specs.Rows.{word_in, amount_in, is_empty_in}
+use Rattle.gtfs_schema.specs.RowConditions.{word_in, amount_in, is_empty_in}
 use Rattle.gtfs_schema.specs.TripRules.{leaves_early, departure_before_arrival}
 use Rattle.gtfs_schema.specs.TripRules as rule
-use Rattle.gtfs_schema.specs.Values.{if_there, if_both, is_word}
-use Rattle.gtfs_rows.specs.Named.{cell_named}
+use Rattle.gtfs_schema.specs.FieldValues.{if_there, if_both, is_word}
+use Rattle.gtfs_rows.specs.NamedCells.{cell_named}
 use Rattle.gtfs_schema.proofs.EachFacts.{any_follows}
 use Rattle.gtfs_rows.specs.Cells.{Cell}
 use Rattle.gtfs_rows.specs.Content.{Content}
 use Rattle.gtfs_rows.specs.RowCells.{stop_time_cells, stop_times_of, value_of_number}
 use Rattle.gtfs_rows.specs.Rows.{StopRow, Trip}
-use Rattle.gtfs_rows.specs.Sound.{IsSound, comes, leaves, is_sound_stop_row, is_stop_of, keeps_time, is_end, is_sound_in, is_sound_trip, has_id, is_sound_period}
-use Rattle.gtfs_rows.specs.Written.{written_beside}
+use Rattle.gtfs_rows.specs.SoundContent.{IsSound, comes, leaves, is_sound_stop_row, is_stop_of, keeps_time, is_end, is_sound_in, is_sound_trip, has_id, is_sound_period}
+use Rattle.gtfs_rows.specs.WrittenContent.{written_beside}
 use Rattle.gtfs_rows.proofs.Held.{held_at, held_member}
 use Rattle.gtfs_rows.proofs.RangeLists.{any_filter_range}
 use Rattle.gtfs_rows.proofs.RowTexts.{all_at}

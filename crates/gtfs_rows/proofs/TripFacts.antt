@@ -10,15 +10,15 @@ use Rattle.std.proofs.lemmas.List.Folds.{list_all-map}
 use Rattle.std.proofs.lemmas.Option.{get_or_from_slice_get, slice_get-get_or, slice_get_within}
 use Rattle.gtfs_field.proofs.ListFacts.{pairs-from_map, some_of}
 use Rattle.gtfs_schema.specs.PeriodRules.{share_second}
-use Rattle.gtfs_schema.specs.Values.{if_both}
+use Rattle.gtfs_schema.specs.FieldValues.{if_both}
 use Rattle.gtfs_table.proofs.PartFacts.{all_in_part, length-parts}
 use Rattle.gtfs_rows.specs.declared.frequency.Frequency.{Frequency}
 use Rattle.gtfs_rows.specs.declared.parts.Parts.{Parts}
 use Rattle.gtfs_stop_times.specs.declared.stop_row.StopRow.{StopRow}
 use Rattle.gtfs_rows.specs.declared.trip.Trip.{Trip}
-use Rattle.gtfs_rows.specs.Order.{Ascends}
-use Rattle.gtfs_rows.specs.Sound.{comes, leaves, keeps_time, is_end, is_sound_in, is_sound_stop_row, is_sound_period, is_sound_trip, is_stop_of, are_apart, has_id}
-use Rattle.gtfs_rows.specs.Views.{IsSoundParts, content_of_parts, trip_of, stop_row_of, frequency_of, stop_time_names_rows, is_number_within}
+use Rattle.gtfs_rows.specs.TransferOrder.{Ascends}
+use Rattle.gtfs_rows.specs.SoundContent.{comes, leaves, keeps_time, is_end, is_sound_in, is_sound_stop_row, is_sound_period, is_sound_trip, is_stop_of, are_apart, has_id}
+use Rattle.gtfs_rows.specs.RowsInMemory.{IsSoundParts, content_of_parts, trip_of, stop_row_of, frequency_of, stop_time_names_rows, is_number_within}
 use Rattle.gtfs_rows.proofs.RowTexts.{all_at}
 use Rattle.gtfs_rows.specs.Trips.{AreStopTimes, ArePeriods, stop_rows_by_trip, frequencies_by_trip}
 use Rattle.gtfs_rows.proofs.ListFacts.{all_of, all_from, less_is}

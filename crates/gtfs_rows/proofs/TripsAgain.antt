@@ -10,15 +10,15 @@ use Rattle.std.proofs.lemmas.List.{map-id}
 use Rattle.gtfs_field.specs.TextOrder.{text_cmp}
 use Rattle.gtfs_table.specs.declared.file.File.TheVariants as file
 use Rattle.gtfs_table.specs.Rows.{rows}
-use Rattle.gtfs_schema.specs.Rows.{word_in}
-use Rattle.gtfs_schema.specs.Values.{is_word}
+use Rattle.gtfs_schema.specs.RowConditions.{word_in}
+use Rattle.gtfs_schema.specs.FieldValues.{is_word}
 use Rattle.gtfs_rows.specs.Content.{Content}
-use Rattle.gtfs_rows.specs.Order.{Ascends, by_key}
-use Rattle.gtfs_rows.specs.Reading.{stop_in, stop_row_in, frequency_in, trip_in, rows_of, text_at}
+use Rattle.gtfs_rows.specs.TransferOrder.{Ascends, by_key}
+use Rattle.gtfs_rows.specs.ContentRead.{stop_in, stop_row_in, frequency_in, trip_in, rows_of, text_at}
 use Rattle.gtfs_rows.specs.RowCells.{stop_cells, trip_cells, stop_time_cells, frequency_cells, stop_times_of, frequencies_of}
 use Rattle.gtfs_rows.specs.Rows.{Stop, StopRow, Frequency, Trip}
-use Rattle.gtfs_rows.specs.Sound.{IsSound}
-use Rattle.gtfs_rows.specs.Written.{written_beside}
+use Rattle.gtfs_rows.specs.SoundContent.{IsSound}
+use Rattle.gtfs_rows.specs.WrittenContent.{written_beside}
 use Rattle.gtfs_rows.proofs.ByKey.{by_key_is}
 use Rattle.gtfs_rows.proofs.Held.{text_antisymmetric, held_at}
 use Rattle.gtfs_rows.proofs.RangeLists.{map_range, map_filter_range}

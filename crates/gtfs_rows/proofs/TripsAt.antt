@@ -6,7 +6,7 @@ use Rattle.gtfs_rows.specs.declared.frequency.Frequency.{Frequency}
 use Rattle.gtfs_rows.specs.declared.parts.Parts.{Parts}
 use Rattle.gtfs_stop_times.specs.declared.stop_row.StopRow.{StopRow}
 use Rattle.gtfs_rows.specs.declared.trip.Trip.{Trip}
-use Rattle.gtfs_rows.specs.Views.{trip_of, trips_of, content_of_parts}
+use Rattle.gtfs_rows.specs.RowsInMemory.{trip_of, trips_of, content_of_parts}
 use Rattle.gtfs_rows.specs.Trips.{stop_rows_by_trip, frequencies_by_trip}
 
 at : (p : Parts) (ts : List Trip) (rs : List (List StopRow)) (fs : List (List Frequency)) (t : ℕ) (row : Trip) (r : List StopRow) (f : List Frequency)

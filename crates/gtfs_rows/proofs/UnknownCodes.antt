@@ -11,15 +11,15 @@ use Rattle.gtfs_schema.specs.Columns.{columns_of, id}
 use Rattle.gtfs_schema.specs.KeyRules.{is_known}
 use Rattle.gtfs_schema.specs.steps.ProblemOrder.{same_file}
 use Rattle.gtfs_schema.specs.References.{stop_targets, route_targets, trip_targets}
-use Rattle.gtfs_schema.specs.Rows.{file_rank, is_file, text_in, value_in}
-use Rattle.gtfs_schema.specs.Values.{Value, word}
+use Rattle.gtfs_schema.specs.RowConditions.{file_rank, is_file, text_in, value_in}
+use Rattle.gtfs_schema.specs.FieldValues.{Value, word}
 use Rattle.gtfs_schema.proofs.SiteFacts.{text_is}
 use Rattle.gtfs_rows.specs.Cells.{Cell, are_cells, cell_text}
 use Rattle.gtfs_rows.specs.Content.{Content}
-use Rattle.gtfs_rows.specs.Named.{cell_named, text_named}
+use Rattle.gtfs_rows.specs.NamedCells.{cell_named, text_named}
 use Rattle.gtfs_rows.specs.RowCells.{cells_in, route_cells, trip_cells}
-use Rattle.gtfs_rows.specs.Sound.{IsSound, if_given, has_id, is_stop_of}
-use Rattle.gtfs_rows.specs.Written.{written_beside}
+use Rattle.gtfs_rows.specs.SoundContent.{IsSound, if_given, has_id, is_stop_of}
+use Rattle.gtfs_rows.specs.WrittenContent.{written_beside}
 use Rattle.gtfs_rows.proofs.FileRows.{row_index}
 use Rattle.gtfs_rows.proofs.ReferenceCodes.{known_in, stop_known}
 use Rattle.gtfs_rows.proofs.Views.{value_at, text_at', count_is}

@@ -9,15 +9,15 @@ use Rattle.gtfs_table.specs.Tables.{Dataset}
 use Rattle.gtfs_table.specs.declared.file.File.{File}
 use Rattle.gtfs_table.specs.Rows.{rows, is_row, records_in, is_empty}
 use Rattle.gtfs_schema.specs.Columns.{Column, Empty, refused, nothing, means, columns_of, column_named}
-use Rattle.gtfs_schema.specs.Rows.{text_in, value_in, word_in, amount_in, choice_in, is_empty_in, is_file, Rule, reported_at}
-use Rattle.gtfs_schema.specs.Values.{Value, word, amount, as_word, as_amount, readable, meaning}
+use Rattle.gtfs_schema.specs.RowConditions.{text_in, value_in, word_in, amount_in, choice_in, is_empty_in, is_file, Rule, reported_at}
+use Rattle.gtfs_schema.specs.FieldValues.{Value, word, amount, as_word, as_amount, readable, meaning}
 use Rattle.gtfs_schema.proofs.ValueFacts.{amount_back}
 use Rattle.gtfs_rows.specs.Cells.{Cell, is_cell, are_cells, cell_text}
 use Rattle.gtfs_rows.specs.Content.{Content}
-use Rattle.gtfs_rows.specs.Named.{cell_named, text_named}
-use Rattle.gtfs_rows.specs.Reading.{text_at, number_in, number_at}
+use Rattle.gtfs_rows.specs.NamedCells.{cell_named, text_named}
+use Rattle.gtfs_rows.specs.ContentRead.{text_at, number_in, number_at}
 use Rattle.gtfs_rows.specs.RowCells.{cells_in, value_of_number}
-use Rattle.gtfs_rows.specs.Written.{written_beside}
+use Rattle.gtfs_rows.specs.WrittenContent.{written_beside}
 use Rattle.gtfs_rows.proofs.FileRows.{rows_written, row_index, cell_found}
 use Rattle.gtfs_rows.proofs.RowTexts.{all_at, value_written, text_written}
 use Rattle.gtfs_rows.proofs.CellTexts.{writes_value}

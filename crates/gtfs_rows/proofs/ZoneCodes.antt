@@ -7,13 +7,13 @@ use Rattle.gtfs_table.specs.declared.file.File.{File}
 use Rattle.gtfs_table.specs.declared.file.File.TheVariants as file
 use Rattle.gtfs_table.specs.Rows.{is_empty}
 use Rattle.gtfs_schema.specs.PresenceRules.{first_zone, has_other_zone, zones_differ}
-use Rattle.gtfs_schema.specs.Rows.{word_in, is_readable_in}
-use Rattle.gtfs_schema.specs.Values.{if_there, if_both}
+use Rattle.gtfs_schema.specs.RowConditions.{word_in, is_readable_in}
+use Rattle.gtfs_schema.specs.FieldValues.{if_there, if_both}
 use Rattle.gtfs_rows.specs.Content.{Content}
 use Rattle.gtfs_rows.specs.RowCells.{agency_cells}
 use Rattle.gtfs_rows.specs.Rows.{Agency}
-use Rattle.gtfs_rows.specs.Sound.{IsSound, is_sound_agency}
-use Rattle.gtfs_rows.specs.Written.{written_beside}
+use Rattle.gtfs_rows.specs.SoundContent.{IsSound, is_sound_agency}
+use Rattle.gtfs_rows.specs.WrittenContent.{written_beside}
 use Rattle.gtfs_rows.proofs.RangeLists.{find_range}
 use Rattle.gtfs_rows.proofs.RowTexts.{all_at}
 use Rattle.gtfs_rows.proofs.Views.{rows_are, value_at, word_at, no_told}

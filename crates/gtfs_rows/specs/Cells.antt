@@ -5,8 +5,9 @@ use Rattle.gtfs_field.specs.Kinds.{is_in_ranges, most_degrees}
 use Rattle.gtfs_field.specs.Canonical.{count_text, time_text, date_text, colour_text, coordinate_text}
 use Rattle.gtfs_table.specs.Blanks.{cut}
 use Rattle.gtfs_table.specs.Rows.{is_empty}
-use Rattle.gtfs_schema.specs.Columns.{Kind, id, text, count, choice, time, date, colour, coordinate, Empty, refused, nothing, means, Column}
-use Rattle.gtfs_schema.specs.Values.{Value, word, amount, has_control}
+use Rattle.gtfs_schema.specs.Columns.{Kind, id, text, count, choice, time, date, colour, coordinate, Column}
+use Rattle.gtfs_schema.specs.ReadRules.{may_lack}
+use Rattle.gtfs_schema.specs.FieldValues.{Value, word, amount, has_control}
 
 -- the value of a column in a row, or none
 abbrev pub Cell : Type 0
@@ -41,14 +42,8 @@ is_of_kind date (amount x) = is_between (negsuc 25_566) (pos 2_932_896) x
 is_of_kind colour (amount x) = is_between (pos 0) (pos 16_777_215) x
 is_of_kind (coordinate axis) (amount x) = nat_le (unsigned_abs x) (most_degrees axis * 10 ^ 9)
 
--- a column may have no value
-abbrev pub takes_none : Empty → Bool
-takes_none refused = false
-takes_none nothing = true
-takes_none (means t) = false
-
 abbrev pub is_cell : Column → Cell → Bool
-is_cell c None = takes_none c.empty
+is_cell c None = may_lack c.empty
 is_cell c (Some v) = is_of_kind c.kind v
 
 -- one cell for each column

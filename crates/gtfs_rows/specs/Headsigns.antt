@@ -1,7 +1,7 @@
 -- The headsigns of stop times, each at its number.
 -- GTFS Schedule Reference, `stop_headsign` of stop_times.txt. A text is the list of its bytes.
 use Rattle.std.specs.Prelude.{◌≡◌, ◌<◌, ◌≤◌, ℕ, List, length, AllPairs, All, Option, Some, None, false, bytes_eq, slice_get}
-use Rattle.gtfs_schema.specs.Values.{plain}
+use Rattle.gtfs_schema.specs.FieldValues.{plain}
 
 -- no control character is in them
 abbrev pub ArePlain : List (List ℕ) → Type 0

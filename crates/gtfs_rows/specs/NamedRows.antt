@@ -4,7 +4,7 @@ use Rattle.gtfs_rows.specs.declared.route.Route.{Route as RouteRow}
 use Rattle.gtfs_rows.specs.declared.stop.Stop.{Stop as StopRowOf}
 use Rattle.gtfs_stop_times.specs.declared.stop_row.StopRow.{StopRow as RowByNumber}
 use Rattle.gtfs_rows.specs.declared.trip.Trip.{Trip as TripRow}
-use Rattle.gtfs_rows.specs.Choices.{bikes_code, boarding_code, direction_code, drop_off_code, location_code, pickup_code, timepoint_code, wheelchair_code}
+use Rattle.gtfs_rows.specs.RowChoices.{bikes_code, boarding_code, direction_code, drop_off_code, location_code, pickup_code, timepoint_code, wheelchair_code}
 use Rattle.gtfs_rows.specs.Rows.{Route, Stop, StopRow, Trip}
 
 -- the text of a number; of a number beyond the list this says nothing that a clause uses

@@ -4,7 +4,7 @@ use Rattle.std.specs.Prelude.{ℕ, ◌==◌, ◌&&◌, ◌||◌, Bool, List, map
 use Rattle.std.specs.List.{list_any}
 use Rattle.gtfs_rows.specs.Content.{Content}
 use Rattle.gtfs_rows.specs.Rows.{Stop}
-use Rattle.gtfs_schema.specs.Values.{if_there}
+use Rattle.gtfs_schema.specs.FieldValues.{if_there}
 
 -- a stop or a platform, and no station, entrance, node or boarding area
 abbrev pub is_plain_stop : Stop → Bool

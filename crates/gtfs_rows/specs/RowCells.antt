@@ -6,7 +6,7 @@ use Rattle.gtfs_days.specs.declared.exception.Exception.TheVariants.{Added, Remo
 use Rattle.gtfs_table.specs.declared.file.File.{File}
 use Rattle.gtfs_table.specs.declared.file.File.TheVariants as file
 use Rattle.gtfs_table.specs.Rows.{is_empty}
-use Rattle.gtfs_schema.specs.Values.{Value, word, amount}
+use Rattle.gtfs_schema.specs.FieldValues.{Value, word, amount}
 use Rattle.gtfs_rows.specs.Cells.{Cell}
 use Rattle.gtfs_rows.specs.Content.{Content}
 use Rattle.gtfs_rows.specs.Rows.{Agency, Stop, Route, StopRow, Frequency, Trip, Transfer}

@@ -3,7 +3,7 @@
 use Rattle.std.specs.Prelude.{ℕ, ◌+◌, ◌-◌, ◌%◌, ◌==◌, ◌&&◌, not, Bool, nat_lt, nat_le, if◌then◌else◌, List, [], ◌∷◌, length, filter, Option, None, is_some, unwrap_or}
 use Rattle.std.specs.List.{list_any, range_with_len}
 use Rattle.gtfs_rows.specs.Rows.{StopRow, Frequency, Trip}
-use Rattle.gtfs_rows.specs.Sound.{leaves}
+use Rattle.gtfs_rows.specs.SoundContent.{leaves}
 
 -- a row that says when a vehicle comes or when it leaves
 abbrev pub is_timed : StopRow → Bool

@@ -1,7 +1,7 @@
 -- What a transfer with numbers stands for, given the ids of stops, routes and trips by their numbers.
 use Rattle.std.specs.Prelude.{ℕ, ◌&&◌, [], ◌∷◌, Bool, List, length, Option, option_map}
 use Rattle.gtfs_rows.specs.declared.transfer.Transfer.{Transfer as TransferRow}
-use Rattle.gtfs_rows.specs.Choices.{transfer_code}
+use Rattle.gtfs_rows.specs.RowChoices.{transfer_code}
 use Rattle.gtfs_rows.specs.Rows.{Transfer}
 use Rattle.gtfs_rows.specs.NamedRows.{is_number_within, text_of_number}
 

@@ -1,4 +1,4 @@
-use crate::choices::ExactTimes;
+use crate::row_choices::ExactTimes;
 use gtfs_field::Clock;
 
 /// A row of `frequencies.txt`, without its trip (GTFS Schedule Reference, `frequencies.txt`).

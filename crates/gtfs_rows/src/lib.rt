@@ -15,29 +15,25 @@
 //! - [`Parts`] are all rows of a feed, each list in the order of its keys;
 //!   [`stretch`] finds the rows of one trip.
 //!
-//! What a row stands for, with ids as texts, is in `specs/Views.antt`. `specs/Reading.antt` says
-//! what the content of a dataset is, `specs/Sound.antt` which rows make a feed, and
-//! `specs/Written.antt` how a feed is written; that what is written passes the validator and
+//! What a row stands for, with ids as texts, is in `specs/RowsInMemory.antt`. `specs/ContentRead.antt` says
+//! what the content of a dataset is, `specs/SoundContent.antt` which rows make a feed, and
+//! `specs/WrittenContent.antt` how a feed is written; that what is written passes the validator and
 //! reads back is proved in `proofs/`.
 #![tactic(auto)]
 
 mod agency;
-mod choices;
 mod copies;
 mod frequency;
 mod numbers;
 mod parts;
 mod route;
+mod row_choices;
 mod service;
 mod stop;
 mod transfer;
 mod trip;
 
 pub use agency::Agency;
-pub use choices::{
-    BikesAllowed, Direction, ExactTimes, LocationType, TransferType, WheelchairAccessible,
-    WheelchairBoarding,
-};
 pub use frequency::Frequency;
 pub use gtfs_stop_times::{
     DropOffType, HeadsignNo, OptionalClock, OptionalHeadsign, PickupType, RowRange, StopNo,
@@ -46,6 +42,10 @@ pub use gtfs_stop_times::{
 pub use numbers::{AgencyNo, RouteNo, ServiceNo, TripNo};
 pub use parts::Parts;
 pub use route::{Route, RouteType};
+pub use row_choices::{
+    BikesAllowed, Direction, ExactTimes, LocationType, TransferType, WheelchairAccessible,
+    WheelchairBoarding,
+};
 pub use service::ServiceRow;
 pub use stop::Stop;
 pub use transfer::Transfer;

@@ -1,7 +1,7 @@
 ghost use Rattle.std.specs.Prelude.{◌≡◌, IfOk, true};
 ghost use Rattle.gtfs_days.specs.Cut.{cut_day};
 ghost use Rattle.gtfs_days.specs.Service.{is_service_day};
-ghost use Rattle.gtfs_rows.specs.Trimmed.{trimmed_by_number};
+ghost use Rattle.gtfs_rows.specs.TrimmedContent.{trimmed_by_number};
 
 use crate::copies::copied;
 use gtfs_days::{Cut, Service};

@@ -1,7 +1,7 @@
 ghost use Rattle.std.specs.Prelude.{◌≡◌, IfOk, OnOk};
 
-use crate::choices::{LocationType, WheelchairBoarding};
 use crate::copies::copy_if_any;
+use crate::row_choices::{LocationType, WheelchairBoarding};
 use gtfs_field::{Coord, OutOfMemory, Text};
 use gtfs_stop_times::StopNo;
 use std::alloc::Global;

@@ -1,5 +1,5 @@
-use crate::choices::TransferType;
 use crate::numbers::{RouteNo, TripNo};
+use crate::row_choices::TransferType;
 use gtfs_stop_times::StopNo;
 
 /// A row of `transfers.txt` (GTFS Schedule Reference, `transfers.txt`).

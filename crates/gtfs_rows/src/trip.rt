@@ -1,8 +1,8 @@
 ghost use Rattle.std.specs.Prelude.{◌≡◌, IfOk};
 
-use crate::choices::{BikesAllowed, Direction, WheelchairAccessible};
 use crate::copies::copied_if_any;
 use crate::numbers::{RouteNo, ServiceNo};
+use crate::row_choices::{BikesAllowed, Direction, WheelchairAccessible};
 use gtfs_field::{OutOfMemory, Text};
 use std::alloc::Global;
 

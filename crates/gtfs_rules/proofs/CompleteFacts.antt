@@ -4,7 +4,7 @@ use Rattle.gtfs_table.specs.Tables.{Dataset}
 use Rattle.gtfs_table.specs.declared.file.File.TheVariants as file
 use Rattle.gtfs_schema.specs.declared.code.Code.{Code}
 use Rattle.gtfs_schema.specs.declared.code.Code.TheVariants as code
-use Rattle.gtfs_rules.specs.steps.Parts.{every}
+use Rattle.gtfs_rules.specs.steps.PartsOfCheck.{every}
 use Rattle.gtfs_schema.specs.Problems.{FileName, kept, other, Problem, holds, is_problem}
 
 picked : (d : Dataset) (c : Code) (f : FileName) (n : ℕ) (name : List ℕ) → holds c d f n name ≡ true → every (record { file = f; row = n; code = c; column = name }) ≡ true

@@ -9,12 +9,12 @@ use Rattle.gtfs_schema.specs.Columns.{count, defaulting, id, means, nothing, opt
 use Rattle.gtfs_schema.specs.IdNumbers.{number_of_id}
 use Rattle.gtfs_schema.specs.Problems.{Passes, kept}
 use Rattle.gtfs_schema.specs.ReadRules.{StandsAs}
-use Rattle.gtfs_schema.specs.Reads.{amount_of, choice_of, word_of}
-use Rattle.gtfs_schema.specs.Rows.{row_with}
-use Rattle.gtfs_schema.specs.Values.{meaning, readable}
+use Rattle.gtfs_schema.specs.ReadFields.{amount_of, choice_of, word_of}
+use Rattle.gtfs_schema.specs.RowConditions.{row_with}
+use Rattle.gtfs_schema.specs.FieldValues.{meaning, readable}
 use Rattle.gtfs_schema.specs.steps.Ids.{FirstRows, first_row_with, first_rows, ids_of, number_with}
 use Rattle.gtfs_stop_times.specs.declared.stop_time.StopTime.{StopTime}
-use Rattle.gtfs_trip_rules.specs.Kept.{Keeps}
+use Rattle.gtfs_trip_rules.specs.KeptRows.{Keeps}
 use Rattle.gtfs_trip_rules.specs.StopTimes.{stop_time_text}
 use Rattle.gtfs_rules.specs.StopTimes.{SaysStopTime}
 use Rattle.gtfs_schema.proofs.IdFacts.{first_row_is}

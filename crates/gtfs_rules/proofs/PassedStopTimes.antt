@@ -22,8 +22,8 @@ use Rattle.gtfs_schema.specs.declared.code.Code.TheVariants as code
 use Rattle.gtfs_schema.specs.IdNumbers.{id_numbered}
 use Rattle.gtfs_schema.specs.KeyRules.{all_there, same_key}
 use Rattle.gtfs_schema.specs.Problems.{Passes, kept}
-use Rattle.gtfs_schema.specs.Rows.{amount_in, text_in, value_in, word_in}
-use Rattle.gtfs_schema.specs.Values.{Value, amount, if_both, value_eq, word}
+use Rattle.gtfs_schema.specs.RowConditions.{amount_in, text_in, value_in, word_in}
+use Rattle.gtfs_schema.specs.FieldValues.{Value, amount, if_both, value_eq, word}
 use Rattle.gtfs_stop_times.specs.declared.stop_time.StopTime.{StopTime}
 use Rattle.gtfs_trip_rules.specs.KeptOrder.{AreKeptOf}
 use Rattle.gtfs_stop_times.specs.StopTimeOrder.{kept_cmp}

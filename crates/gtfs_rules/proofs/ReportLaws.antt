@@ -15,7 +15,7 @@ use Rattle.gtfs_schema.specs.declared.problem.Problem.{Problem as LentProblem}
 use Rattle.gtfs_schema.specs.Codes.{is_error}
 use Rattle.gtfs_schema.specs.steps.ProblemOrder.{problem_total, problem_anti}
 use Rattle.gtfs_schema.specs.Problems.{Problem, problem_cmp, is_problem, IsReport, Passes, passes}
-use Rattle.gtfs_schema.specs.View.{problem_of}
+use Rattle.gtfs_schema.specs.ProblemTexts.{problem_of}
 
 -- ---- strictly sorted lists with the same members are one list
 

@@ -1,7 +1,7 @@
 -- The text of a report. Its form is this toolkit's.
 use Rattle.std.specs.Prelude.{ℕ, not, if◌then◌else◌, List, ◌++◌, count_by, flat_map, codes, decimal}
 use Rattle.gtfs_schema.specs.Codes.{code_name, code_text, is_error}
-use Rattle.gtfs_schema.specs.Values.{plain}
+use Rattle.gtfs_schema.specs.FieldValues.{plain}
 use Rattle.gtfs_table.specs.Rows.{is_empty}
 use Rattle.gtfs_schema.specs.Problems.{Problem, name_bytes}
 

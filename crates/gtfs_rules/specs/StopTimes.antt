@@ -8,9 +8,9 @@ use Rattle.std.specs.declared.cmp.Ordering.{Ordering}
 use Rattle.gtfs_table.specs.Tables.{Dataset}
 use Rattle.gtfs_table.specs.Rows.{is_row, records_in, rows}
 use Rattle.gtfs_table.specs.declared.file.File.TheVariants as file
-use Rattle.gtfs_stop_times.specs.Choices.{drop_off_code, pickup_code, timepoint_code}
+use Rattle.gtfs_stop_times.specs.StopTimeChoices.{drop_off_code, pickup_code, timepoint_code}
 use Rattle.gtfs_schema.specs.IdNumbers.{id_numbered}
-use Rattle.gtfs_schema.specs.Rows.{amount_in, choice_in, is_empty_in, word_in}
+use Rattle.gtfs_schema.specs.RowConditions.{amount_in, choice_in, is_empty_in, word_in}
 use Rattle.gtfs_stop_times.specs.declared.stop_time.StopTime.{StopTime}
 
 -- a stop time says what its row says; the row's texts are read by its number

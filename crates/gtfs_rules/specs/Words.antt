@@ -14,7 +14,7 @@ pub use Rattle.gtfs_schema.specs.Problems.{Problem}
 -- one of the nine kept files, or another name in the folder
 pub use Rattle.gtfs_schema.specs.Problems.{FileName}
 -- the problem that a `Problem` of the code stands for
-pub use Rattle.gtfs_schema.specs.View.{problem_of}
+pub use Rattle.gtfs_schema.specs.ProblemTexts.{problem_of}
 -- the condition of the problem's code holds in the dataset, at the problem's file, row and column
 pub use Rattle.gtfs_schema.specs.Problems.{is_problem}
 -- the order of problems: by file, then by row, code and column
@@ -44,11 +44,11 @@ pub use Rattle.gtfs_schema.specs.steps.FeedIds.{AreIdsOf}
 -- ---- what the two types are seen as, and what they hold
 
 -- a dataset, and the problems that were found in it
-pub use Rattle.gtfs_schema.specs.steps.Found.{Checked}
+pub use Rattle.gtfs_schema.specs.steps.FoundProblems.{Checked}
 -- the problems are the dataset's report, and the ids and the stop times are those of its rows
-pub use Rattle.gtfs_rules.specs.steps.Checked.{IsChecked}
+pub use Rattle.gtfs_rules.specs.steps.CheckedTables.{IsChecked}
 -- the dataset passes, and the ids and the stop times are its own
-pub use Rattle.gtfs_rules.specs.steps.Checked.{HasPassed}
+pub use Rattle.gtfs_rules.specs.steps.CheckedTables.{HasPassed}
 -- ---- the printed report
 
 -- a line for each problem, and the counts
@@ -86,25 +86,25 @@ pub use Rattle.gtfs_table.specs.Rows.{is_row}
 -- the numbers of a file's rows
 pub use Rattle.gtfs_table.specs.Rows.{rows}
 -- the text of a column in a row, cut of blanks
-pub use Rattle.gtfs_schema.specs.Rows.{text_in}
+pub use Rattle.gtfs_schema.specs.RowConditions.{text_in}
 -- the first row of a file that has an id
-pub use Rattle.gtfs_schema.specs.Rows.{row_with}
+pub use Rattle.gtfs_schema.specs.RowConditions.{row_with}
 -- a text or a number
-pub use Rattle.gtfs_schema.specs.Values.{Value}
+pub use Rattle.gtfs_schema.specs.FieldValues.{Value}
 -- the value of a text of a kind, or why it has none
-pub use Rattle.gtfs_schema.specs.Values.{read_as}
+pub use Rattle.gtfs_schema.specs.FieldValues.{read_as}
 -- the value of a text, none where it is empty or its kind does not accept it
-pub use Rattle.gtfs_schema.specs.Values.{readable}
+pub use Rattle.gtfs_schema.specs.FieldValues.{readable}
 -- the text that an empty text of a column stands for
-pub use Rattle.gtfs_schema.specs.Values.{meaning}
+pub use Rattle.gtfs_schema.specs.FieldValues.{meaning}
 -- the value of a kept column in a row, where it is readable
-pub use Rattle.gtfs_schema.specs.Rows.{value_in}
+pub use Rattle.gtfs_schema.specs.RowConditions.{value_in}
 -- the same of a column of ids or texts
-pub use Rattle.gtfs_schema.specs.Rows.{word_in}
+pub use Rattle.gtfs_schema.specs.RowConditions.{word_in}
 -- the same of a column of numbers
-pub use Rattle.gtfs_schema.specs.Rows.{amount_in}
+pub use Rattle.gtfs_schema.specs.RowConditions.{amount_in}
 -- the number of a choice, in which an empty value has its default
-pub use Rattle.gtfs_schema.specs.Rows.{choice_in}
+pub use Rattle.gtfs_schema.specs.RowConditions.{choice_in}
 -- ---- when each code holds
 
 -- the condition of a code, in one of the nine files

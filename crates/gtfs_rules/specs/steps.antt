@@ -1,3 +1,3 @@
 -- What only the steps of a check need.
-pub mod Checked
-pub mod Parts
+pub mod CheckedTables
+pub mod PartsOfCheck

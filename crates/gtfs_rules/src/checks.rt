@@ -1,7 +1,7 @@
 ghost use Rattle.std.specs.Prelude.{◌≡◌, IfOk, OnOk};
 ghost use Rattle.gtfs_schema.specs.steps.FeedIds.{AreIdsOf};
-ghost use Rattle.gtfs_schema.specs.steps.Found.{Reports};
-ghost use Rattle.gtfs_rules.specs.steps.Parts.{every, in_files, in_periods_and_services, in_trips};
+ghost use Rattle.gtfs_schema.specs.steps.FoundProblems.{Reports};
+ghost use Rattle.gtfs_rules.specs.steps.PartsOfCheck.{every, in_files, in_periods_and_services, in_trips};
 ghost use Rattle.gtfs_schema.specs.Problems.{IsReport};
 ghost use Rattle.gtfs_schema.specs.steps.StopTypes.{AreStopTypes};
 ghost use Rattle.gtfs_trip_rules.specs.KeptOrder.{AreKeptOf};

@@ -19,7 +19,7 @@ pub struct Passed<'a> {
 
 impl<'a> Model for Passed<'a> {
     ghost use Rattle.gtfs_table.specs.Tables.{Dataset};
-    ghost use Rattle.gtfs_rules.specs.steps.Checked.{HasPassed};
+    ghost use Rattle.gtfs_rules.specs.steps.CheckedTables.{HasPassed};
 
     ghost Value = { Dataset };
 

@@ -2,9 +2,9 @@ ghost use Rattle.std.specs.Prelude.{◌≡◌, map, IfOk, IfErr};
 ghost use Rattle.std.specs.List.{list_any};
 ghost use Rattle.gtfs_schema.specs.Codes.{is_error};
 ghost use Rattle.gtfs_schema.specs.steps.FeedIds.{AreIdsOf};
-ghost use Rattle.gtfs_schema.specs.steps.Found.{ListsAll};
+ghost use Rattle.gtfs_schema.specs.steps.FoundProblems.{ListsAll};
 ghost use Rattle.gtfs_schema.specs.Problems.{IsOnlyReport, IsReport, Passes};
-ghost use Rattle.gtfs_schema.specs.View.{problem_of};
+ghost use Rattle.gtfs_schema.specs.ProblemTexts.{problem_of};
 ghost use Rattle.gtfs_trip_rules.specs.KeptOrder.{AreKeptOf};
 
 use crate::passed::Passed;
@@ -25,9 +25,9 @@ pub struct Report<'a> {
 
 impl<'a> Model for Report<'a> {
     ghost use Rattle.std.specs.Prelude.{map};
-    ghost use Rattle.gtfs_schema.specs.steps.Found.{Checked};
-    ghost use Rattle.gtfs_schema.specs.View.{problem_of};
-    ghost use Rattle.gtfs_rules.specs.steps.Checked.{IsChecked};
+    ghost use Rattle.gtfs_schema.specs.steps.FoundProblems.{Checked};
+    ghost use Rattle.gtfs_schema.specs.ProblemTexts.{problem_of};
+    ghost use Rattle.gtfs_rules.specs.steps.CheckedTables.{IsChecked};
 
     ghost Value = { Checked };
 

@@ -4,13 +4,13 @@ use Rattle.std.specs.Prelude.{◌==◌, ◌+◌, ◌++◌, ◌&&◌, not, length
 use Rattle.std.specs.List.{range_with_len, slice_split}
 use Rattle.std.specs.FinMap.Entries.{put}
 use Prim.Native.String.{String as Literal}
-use Rattle.gtfs_table.specs.Reading.{kept_files}
+use Rattle.gtfs_table.specs.TablesRead.{kept_files}
 use Rattle.gtfs_table.specs.Tables.{Table, Dataset, empty_dataset, of_records}
 use Rattle.gtfs_table.specs.declared.file.File.{File}
 use Rattle.gtfs_schema.specs.Codes.{all_codes}
 use Rattle.gtfs_schema.specs.Columns.{columns_of}
 use Rattle.gtfs_table.specs.Rows.{records_in, is_empty}
-use Rattle.gtfs_schema.specs.Rows.{header, is_kept_column}
+use Rattle.gtfs_schema.specs.RowConditions.{header, is_kept_column}
 use Rattle.gtfs_schema.specs.Problems.{Problem, kept, other, is_problem, problem_cmp}
 use Rattle.gtfs_rules.specs.Report.{report_text}
 

@@ -10,7 +10,7 @@ use Rattle.std.proofs.lemmas.List.Concat.{flat_map-cons}
 use Rattle.std.proofs.lemmas.List.Folds.{list_any-append}
 use Rattle.std.proofs.lemmas.Map.Views.{any-filter_same}
 use Rattle.gtfs_field.proofs.ListFacts.{any_mapped, count_any}
-use Rattle.gtfs_table.specs.Reading.{kept_files}
+use Rattle.gtfs_table.specs.TablesRead.{kept_files}
 use Rattle.gtfs_table.specs.Rows.{has_no_record, is_empty, is_row, records_in}
 use Rattle.gtfs_table.specs.Tables.{Dataset, Records}
 use Rattle.gtfs_table.specs.declared.file.File.{File}
@@ -24,10 +24,10 @@ use Rattle.gtfs_schema.specs.PeriodRules.{ends_at_start, overlaps_earlier}
 use Rattle.gtfs_schema.specs.PresenceRules.{has_other_zone}
 use Rattle.gtfs_schema.specs.Problems.{FileName, kept, other, Problem, holds, holds_in, is_code, lists_problem, is_problem, problem_cmp}
 use Rattle.gtfs_schema.specs.References.{reported_column}
-use Rattle.gtfs_schema.specs.Rows.{file_rank, header, is_file, is_kept_column, is_named, text_in, times_named, value_in}
+use Rattle.gtfs_schema.specs.RowConditions.{file_rank, header, is_file, is_kept_column, is_named, text_in, times_named, value_in}
 use Rattle.gtfs_schema.specs.ServiceRules.{ends_before_start, is_never_active}
 use Rattle.gtfs_schema.specs.TripRules.{goes_back, has_few_rows, is_end_untimed, lacks_time, leaves_early}
-use Rattle.gtfs_schema.specs.Values.{Value, has_control, if_there, read_as, readable}
+use Rattle.gtfs_schema.specs.FieldValues.{Value, has_control, if_there, read_as, readable}
 use Rattle.gtfs_schema.specs.declared.code.Code.{Code}
 use Rattle.gtfs_schema.specs.declared.code.Code.TheVariants as code
 use Rattle.gtfs_schema.proofs.BoolFacts.{and_parts, or_left, or_right}

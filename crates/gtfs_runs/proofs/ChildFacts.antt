@@ -11,12 +11,12 @@ use Rattle.std.proofs.lemmas.List.Sorted.{ranks_by, sorted_far}
 use Rattle.std.proofs.lemmas.Option.{slice_get_within}
 use Rattle.gtfs_field.proofs.NumberFacts.{number_itself as itself}
 use Rattle.gtfs_field.proofs.OrderingFacts.{nat-less}
-use Rattle.gtfs_schema.specs.Values.{if_there}
-use Rattle.gtfs_rows.specs.Choices.{location_code}
+use Rattle.gtfs_schema.specs.FieldValues.{if_there}
+use Rattle.gtfs_rows.specs.RowChoices.{location_code}
 use Rattle.gtfs_stop_times.specs.declared.numbers.StopNo.{StopNo}
 use Rattle.gtfs_rows.specs.declared.parts.Parts.{Parts}
 use Rattle.gtfs_rows.specs.declared.stop.Stop.{Stop}
-use Rattle.gtfs_runs.specs.Counts.{tally}
+use Rattle.gtfs_runs.specs.Tallies.{tally}
 use Rattle.gtfs_runs.specs.declared.stop_index.children.Child.{Child}
 use Rattle.gtfs_runs.specs.steps.Children.{AreChildren, below_parent, child_cmp, is_child, is_pair}
 use Rattle.gtfs_runs.proofs.NumberParts.{together}

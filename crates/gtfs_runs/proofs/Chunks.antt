@@ -6,16 +6,16 @@ use Rattle.std.proofs.lemmas.Bool.{cases_Bool, ltb-false, ltb-true}
 use Rattle.std.proofs.lemmas.List.{drop-drop, get_or_default, get_or-drop, get_or-map, get_or-take, length-drop, length-map, length-take-le, map-append, take-append-drop, take_rest}
 use Rattle.std.proofs.lemmas.List.Elements.{All-map, All-take}
 use Rattle.std.proofs.lemmas.Simd.{map-map}
-use Rattle.gtfs_rows.specs.Order.{Ascends}
-use Rattle.gtfs_rows.specs.Views.{content_of_parts}
+use Rattle.gtfs_rows.specs.TransferOrder.{Ascends}
+use Rattle.gtfs_rows.specs.RowsInMemory.{content_of_parts}
 use Rattle.gtfs_rows.specs.declared.parts.Parts.{Parts}
-use Rattle.gtfs_runs.specs.Kinds.{IsListLane, course_at, is_of_list}
+use Rattle.gtfs_runs.specs.LaneKinds.{IsListLane, course_at, is_of_list}
 use Rattle.gtfs_runs.specs.StopLanes.{LaneValue, events_of_service}
 use Rattle.gtfs_runs.specs.declared.event.Event.{Event}
 use Rattle.gtfs_runs.specs.declared.stop_lanes.listed.ListedEvent.{ListedEvent}
 use Rattle.gtfs_runs.specs.steps.Courses.{CourseNo, IsListed, Stopping, course_of, event_of, how_many, is_same_course, stopping_cmp, stopping_events, stopping_of}
-use Rattle.gtfs_runs.specs.steps.Groups.{trip_group}
-use Rattle.gtfs_runs.specs.steps.Numbers.{AreNumbered, IsNumbered}
+use Rattle.gtfs_runs.specs.steps.TripGroups.{trip_group}
+use Rattle.gtfs_runs.specs.steps.CourseNumbers.{AreNumbered, IsNumbered}
 use Rattle.gtfs_runs.proofs.CourseOrder.{chunk_differs, course_is, one_course, pairs-right, told_more}
 
 split : (p : Parts) (n : ℕ) (xs : List ListedEvent) → map (stopping_of p) xs ≡ map (stopping_of p) (take n xs) ++ map (stopping_of p) (drop n xs)

@@ -3,13 +3,13 @@ use Rattle.std.proofs.Common.{◌≡◌, ◌≤◌, ◌<◌, ◌∙◌, ◌&&◌
 use Rattle.std.specs.Prelude.{◌==◌, bytes_eq}
 use Rattle.std.specs.List.{All, slice_get}
 use Rattle.std.proofs.lemmas.List.Elements.{All-head, All-tail}
-use Rattle.gtfs_schema.specs.Values.{if_there}
+use Rattle.gtfs_schema.specs.FieldValues.{if_there}
 use Rattle.gtfs_rows.specs.Rows as content
 use Rattle.gtfs_rows.specs.declared.frequency.Frequency.{Frequency}
 use Rattle.gtfs_rows.specs.declared.parts.Parts.{Parts}
 use Rattle.gtfs_stop_times.specs.declared.stop_row.StopRow.{StopRow}
 use Rattle.gtfs_rows.specs.declared.trip.Trip.{Trip}
-use Rattle.gtfs_rows.specs.Views.{IsSoundParts, content_of_parts, service_ids, stop_ids, stop_row_of, text_of_number, trip_of, trips_of}
+use Rattle.gtfs_rows.specs.RowsInMemory.{IsSoundParts, content_of_parts, service_ids, stop_ids, stop_row_of, text_of_number, trip_of, trips_of}
 use Rattle.gtfs_rows.specs.Trips.{frequencies_by_trip, stop_rows_by_trip}
 use Rattle.gtfs_rows.proofs.NumberFacts.{trip_service}
 use Rattle.gtfs_rows.proofs.TripsAt.{content_trip}

@@ -14,7 +14,7 @@ use Rattle.gtfs_rows.specs.declared.service.ServiceRow.{ServiceRow}
 use Rattle.gtfs_rows.specs.declared.stop.Stop.{Stop}
 use Rattle.gtfs_stop_times.specs.declared.stop_row.StopRow.{StopRow}
 use Rattle.gtfs_rows.specs.declared.trip.Trip.{Trip}
-use Rattle.gtfs_rows.specs.Views.{IsSoundParts, content_of_parts, frequency_of, service_ids, stop_ids, stop_of, stop_row_of, text_of_number, trip_of}
+use Rattle.gtfs_rows.specs.RowsInMemory.{IsSoundParts, content_of_parts, frequency_of, service_ids, stop_ids, stop_of, stop_row_of, text_of_number, trip_of}
 use Rattle.gtfs_stop_times.specs.RowTimes.{left_at}
 use Rattle.gtfs_rows.proofs.SoundOrder.{in_order}
 use Rattle.gtfs_runs.specs.Lanes.{departure_rows}

@@ -12,8 +12,9 @@ use Rattle.std.proofs.lemmas.Bool.Decides.{nat_tests}
 use Rattle.gtfs_field.proofs.OrderingFacts.{equal, tied as parts}
 use Rattle.gtfs_rows.specs.Rows.{Frequency}
 use Rattle.gtfs_runs.specs.declared.event.Event.{Event}
-use Rattle.gtfs_runs.specs.Counts.{is_same, tally}
-use Rattle.gtfs_runs.specs.Periods.{run_event, run_events, event_of_run, is_of_period}
+use Rattle.gtfs_runs.specs.EventOrder.{is_same}
+use Rattle.gtfs_runs.specs.Tallies.{tally}
+use Rattle.gtfs_runs.specs.PeriodRuns.{run_event, run_events, event_of_run, is_of_period}
 use Rattle.gtfs_rows.specs.Runs.{starts_run}
 use Rattle.gtfs_runs.proofs.Orders.{events_total}
 

@@ -19,9 +19,9 @@ use Rattle.gtfs_schema.proofs.SiteFacts.{text_itself}
 use Rattle.gtfs_rows.proofs.Held.{text_antisymmetric}
 use Rattle.gtfs_rows.specs.declared.parts.Parts.{Parts}
 use Rattle.gtfs_rows.specs.declared.stop.Stop.{Stop}
-use Rattle.gtfs_rows.specs.Views.{IsSoundParts, service_ids, stop_ids, text_of_number}
+use Rattle.gtfs_rows.specs.RowsInMemory.{IsSoundParts, service_ids, stop_ids, text_of_number}
 use Rattle.gtfs_rows.proofs.SoundOrder.{in_order}
-use Rattle.gtfs_runs.specs.Counts.{tally}
+use Rattle.gtfs_runs.specs.Tallies.{tally}
 use Rattle.gtfs_runs.specs.Lanes.{Course, course_cmp}
 use Rattle.gtfs_runs.specs.steps.Courses.{CourseNo, IsCourse, course_of, how_many, is_same_course}
 use Rattle.gtfs_runs.proofs.ContentRows.{same_service}

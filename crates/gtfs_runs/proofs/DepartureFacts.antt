@@ -7,7 +7,7 @@ use Rattle.std.proofs.lemmas.List.Folds.{list_any_at as any_from}
 use Rattle.gtfs_field.proofs.ListFacts.{any_mapped}
 use Rattle.gtfs_rows.specs.declared.parts.Parts.{Parts}
 use Rattle.gtfs_stop_times.specs.declared.stop_row.StopRow.{StopRow}
-use Rattle.gtfs_rows.specs.Views.{stop_row_of}
+use Rattle.gtfs_rows.specs.RowsInMemory.{stop_row_of}
 
 any_none : {X : Type 0} (q : X → Bool) (xs : List X) (d : X) → ((k : ℕ) → k < length xs → q (get_or xs k d) ≡ false) → list_any q xs ≡ false
 any_none q [] d none = refl

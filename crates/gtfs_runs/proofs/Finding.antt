@@ -6,7 +6,7 @@ use Rattle.std.specs.declared.cmp.Ordering.{Ordering}
 use Rattle.std.specs.declared.cmp.Ordering.TheVariants.{Less}
 use Rattle.std.proofs.lemmas.Bool.{true≢false, cases_Bool, not-true as turned-back, not-false as turned}
 use Rattle.gtfs_field.proofs.NumberFacts.{cases_up_to as split_lt_eq}
-use Rattle.gtfs_rows.specs.Order.{Ascends}
+use Rattle.gtfs_rows.specs.TransferOrder.{Ascends}
 
 -- where a test fails up to an index and holds from there on, the element there is the first that passes
 pub find-parted : {X : Type 0} (q : X → Bool) (xs : List X) (i : ℕ) → IsPartitionPoint (λ x. not (q x) ≡ true) (λ x. not (q x) ≡ false) xs i → i ≤ length xs

@@ -18,23 +18,23 @@ use Rattle.std.proofs.lemmas.List.Sorted.{All-permutation, ranks_by, sorted_far}
 use Rattle.std.proofs.lemmas.Option.{get_or_from_slice_get, slice_get_within}
 use Rattle.gtfs_field.proofs.NumberFacts.{number_itself as itself}
 use Rattle.gtfs_field.proofs.OrderingFacts.{less as is_less}
-use Rattle.gtfs_schema.specs.Values.{if_there}
+use Rattle.gtfs_schema.specs.FieldValues.{if_there}
 use Rattle.gtfs_rows.specs.Trips.{frequencies_by_trip, stop_rows_by_trip}
-use Rattle.gtfs_rows.specs.Views.{IsSoundParts, content_of_parts}
+use Rattle.gtfs_rows.specs.RowsInMemory.{IsSoundParts, content_of_parts}
 use Rattle.gtfs_rows.specs.declared.parts.Parts.{Parts}
 use Rattle.gtfs_stop_times.specs.declared.stop_row.StopRow.{StopRow}
 use Rattle.gtfs_rows.specs.declared.trip.Trip.{Trip}
-use Rattle.gtfs_runs.specs.Counts.{tally}
+use Rattle.gtfs_runs.specs.Tallies.{tally}
 use Rattle.gtfs_runs.specs.Lanes.{has_periods}
-use Rattle.gtfs_runs.specs.declared.stop_index.DepartureRow.{DepartureRow}
+use Rattle.gtfs_runs.specs.declared.departure_row.DepartureRow.{DepartureRow}
 use Rattle.gtfs_runs.specs.declared.stop_index.indexed_trips.IndexedTrip.{IndexedTrip}
 use Rattle.gtfs_runs.specs.declared.stop_lanes.listed.ListedEvent.{ListedEvent}
 use Rattle.gtfs_runs.specs.steps.Courses.{IsListed, stopping_of}
-use Rattle.gtfs_runs.specs.steps.Groups.{AreOfTrips, Group, GroupedTripValue, below, group_cmp, group_of, lower_trips, trip_group}
+use Rattle.gtfs_runs.specs.steps.TripGroups.{AreOfTrips, Group, GroupedTripValue, below, group_cmp, group_of, lower_trips, trip_group}
 use Rattle.gtfs_stop_times.specs.StopLists.{stops_in}
-use Rattle.gtfs_runs.specs.steps.Numbers.{AreNumbered}
+use Rattle.gtfs_runs.specs.steps.CourseNumbers.{AreNumbered}
 use Rattle.gtfs_runs.specs.steps.Passings.{first_left}
-use Rattle.gtfs_runs.specs.steps.Ranked.{AreIndexedTrips, IsIndexedTrip, IsOfRank, IsRanked, group_number}
+use Rattle.gtfs_runs.specs.steps.IndexedTrips.{AreIndexedTrips, IsIndexedTrip, IsOfRank, IsRanked, group_number}
 use Rattle.gtfs_runs.proofs.Chunks.{all_mapped}
 use Rattle.gtfs_runs.proofs.ContentEvents.{past_trips}
 use Rattle.gtfs_runs.proofs.Numbers.{groups_antisymmetric, groups_total}

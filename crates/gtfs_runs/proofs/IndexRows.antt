@@ -5,20 +5,20 @@ use Rattle.std.proofs.lemmas.Grind.{flat_map-append}
 use Rattle.std.proofs.lemmas.List.{append-nil, take_more}
 use Rattle.std.proofs.lemmas.List.Elements.{All-append, All-cons, All-head, All-nil, All-tail}
 use Rattle.std.proofs.lemmas.Option.{slice_get-get_or}
-use Rattle.gtfs_rows.specs.Views.{IsSoundParts}
+use Rattle.gtfs_rows.specs.RowsInMemory.{IsSoundParts}
 use Rattle.gtfs_rows.specs.declared.parts.Parts.{Parts}
 use Rattle.gtfs_times.proofs.FilledContent.{sound-timed}
 use Rattle.gtfs_times.specs.TimedRows.{timed_parts}
 use Rattle.gtfs_times.specs.declared.times.Times.{Times}
-use Rattle.gtfs_runs.specs.Counts.{tally}
+use Rattle.gtfs_runs.specs.Tallies.{tally}
 use Rattle.gtfs_runs.specs.StopIndex.{AreDepartureRows, is_this_row}
-use Rattle.gtfs_runs.specs.declared.stop_index.DepartureRow.{DepartureRow}
+use Rattle.gtfs_runs.specs.declared.departure_row.DepartureRow.{DepartureRow}
 use Rattle.gtfs_runs.specs.declared.stop_index.children.Child.{Child}
 use Rattle.gtfs_runs.specs.steps.AtStops.{at_stop, departs_of}
 use Rattle.gtfs_runs.specs.steps.Children.{is_child}
-use Rattle.gtfs_runs.specs.steps.Noted.{IsNoted}
-use Rattle.gtfs_runs.specs.steps.Places.{AreOfPlace}
-use Rattle.gtfs_runs.specs.steps.RowFinds.{IsInside}
+use Rattle.gtfs_runs.specs.steps.NotedRows.{IsNoted}
+use Rattle.gtfs_runs.specs.steps.PlaceRows.{AreOfPlace}
+use Rattle.gtfs_runs.specs.steps.FoundAtRow.{IsInside}
 use Rattle.gtfs_runs.proofs.ChildFacts.{children_within}
 use Rattle.gtfs_runs.proofs.PlaceFinds.{stop_times_there}
 use Rattle.gtfs_runs.proofs.PlacePassings.{rows_inside}

@@ -7,14 +7,15 @@ use Rattle.std.proofs.lemmas.Grind.{flat_map-append}
 use Rattle.std.proofs.lemmas.List.{append-nil, take_more as taken}
 use Rattle.std.proofs.lemmas.List.Elements.{filter-append}
 use Rattle.gtfs_rows.specs.declared.frequency.Frequency.{Frequency}
-use Rattle.gtfs_rows.specs.Views.{frequency_of}
-use Rattle.gtfs_runs.specs.Counts.{is_same, tally}
-use Rattle.gtfs_runs.specs.Periods.{event_of_run, is_of_period}
+use Rattle.gtfs_rows.specs.RowsInMemory.{frequency_of}
+use Rattle.gtfs_runs.specs.EventOrder.{is_same}
+use Rattle.gtfs_runs.specs.Tallies.{tally}
+use Rattle.gtfs_runs.specs.PeriodRuns.{event_of_run, is_of_period}
 use Rattle.gtfs_runs.specs.StopLanes.{LaneValue, events_of_service}
 use Rattle.gtfs_rows.specs.Runs.{starts_run}
 use Rattle.gtfs_runs.specs.declared.event.Event.{Event}
 use Rattle.gtfs_runs.specs.declared.stop_lanes.passing.Passing.{Passing}
-use Rattle.gtfs_runs.specs.steps.Finds.{times_passed, times_passed_in, times_told}
+use Rattle.gtfs_runs.specs.steps.FoundEvents.{times_passed, times_passed_in, times_told}
 use Rattle.gtfs_runs.specs.steps.Passings.{passing_event}
 use Rattle.gtfs_runs.proofs.Tallies.{tally-append}
 

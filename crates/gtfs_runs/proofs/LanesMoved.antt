@@ -9,13 +9,13 @@ use Rattle.std.specs.List.{sum_by}
 use Rattle.std.specs.List.Sorted.{IsPermutation}
 use Rattle.std.proofs.lemmas.List.Sorted.{All-permutation, IsPermutation-append_comm, IsPermutation-append_left, IsPermutation-append_right, IsPermutation-refl, IsPermutation-trans, length_permutation, sum_by-IsPermutation}
 use Rattle.gtfs_rows.specs.Content.{Content}
-use Rattle.gtfs_rows.specs.Order.{Ascends}
-use Rattle.gtfs_runs.specs.Kinds.{has_untimed}
-use Rattle.gtfs_runs.specs.Counts.{is_same, tally}
-use Rattle.gtfs_runs.specs.Order.{event_cmp}
+use Rattle.gtfs_rows.specs.TransferOrder.{Ascends}
+use Rattle.gtfs_runs.specs.LaneKinds.{has_untimed}
+use Rattle.gtfs_runs.specs.EventOrder.{is_same, event_cmp}
+use Rattle.gtfs_runs.specs.Tallies.{tally}
 use Rattle.gtfs_runs.specs.StopLanes.{AreLanesOf, LaneValue, events_of_service}
 use Rattle.gtfs_runs.specs.declared.event.Event.{Event}
-use Rattle.gtfs_runs.specs.steps.Apart.{AreApart}
+use Rattle.gtfs_runs.specs.steps.FilledApart.{AreApart}
 use Rattle.gtfs_runs.proofs.Tallies.{tally-append}
 
 abbrev told_by : ℕ → Event → LaneValue → ℕ

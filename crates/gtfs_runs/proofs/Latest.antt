@@ -9,13 +9,13 @@ use Rattle.std.proofs.lemmas.List.{append-nil, map-append, take_more as taken}
 use Rattle.std.proofs.lemmas.Option.{get_or_from_slice_get, slice_get-get_or}
 use Rattle.std.proofs.lemmas.List.FromFn.{length-map-range_with_len as length-range}
 use Rattle.gtfs_field.proofs.OrderingFacts.{first_at_most as not_before}
-use Rattle.gtfs_rows.specs.Order.{Ascends}
+use Rattle.gtfs_rows.specs.TransferOrder.{Ascends}
 use Rattle.gtfs_rows.proofs.SameElements.{pairs-tail}
-use Rattle.gtfs_runs.specs.Order.{event_cmp}
-use Rattle.gtfs_runs.specs.Periods.{run_event, run_events}
+use Rattle.gtfs_runs.specs.EventOrder.{event_cmp}
+use Rattle.gtfs_runs.specs.PeriodRuns.{run_event, run_events}
 use Rattle.gtfs_runs.specs.StopLanes.{LaneValue}
 use Rattle.gtfs_runs.specs.declared.event.Event.{Event}
-use Rattle.gtfs_runs.specs.steps.Lists.{latest_of}
+use Rattle.gtfs_runs.specs.steps.LatestOfLists.{latest_of}
 use Rattle.gtfs_runs.proofs.Finding.{get_or-range_0}
 
 max-zero : (a : ℕ) → max 0 a ≡ a

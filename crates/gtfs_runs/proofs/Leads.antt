@@ -8,7 +8,7 @@ use Rattle.std.specs.Ordering.{nat_cmp, ordering_reverse, ordering_then}
 use Rattle.std.proofs.lemmas.Bool.{cases_Bool, ltb-false, ltb-true}
 use Rattle.std.proofs.lemmas.Cmp.{nat_cmp_total}
 use Rattle.gtfs_field.proofs.OrderingFacts.{nat-greater, nat-less}
-use Rattle.gtfs_runs.specs.steps.Groups.{lead_of, list_cmp}
+use Rattle.gtfs_runs.specs.steps.TripGroups.{lead_of, list_cmp}
 
 lists_total : IsTotalOrder list_cmp
 lists_total = search (comparing, rules) depth 20

@@ -6,7 +6,7 @@ use Rattle.std.proofs.lemmas.Bool.Decides.{nat_tests}
 use Rattle.std.proofs.lemmas.List.Elements.{All-head, All-tail}
 use Rattle.gtfs_rows.proofs.Held.{filter_none}
 use Rattle.gtfs_rows.proofs.SameElements.{pairs-head, pairs-tail}
-use Rattle.gtfs_runs.specs.Counts.{tally}
+use Rattle.gtfs_runs.specs.Tallies.{tally}
 use Rattle.gtfs_runs.proofs.Tallies.{tally-none}
 
 unlike : (m n : ℕ) → (m ≡ n → ⊥) → (m == n) ≡ false

@@ -12,7 +12,7 @@ use Rattle.gtfs_field.proofs.NumberFacts.{int_cmp-pos as same_cmp}
 use Rattle.gtfs_field.proofs.OrderingFacts.{int-less, less, nat-greater, nat-less}
 use Rattle.gtfs_runs.specs.declared.event.Event.{Event}
 use Rattle.gtfs_runs.specs.declared.moment.Moment.{Moment}
-use Rattle.gtfs_runs.specs.Order.{event_cmp, moment_cmp, moment_of_event, is_later, is_above_moment, IsFrom}
+use Rattle.gtfs_runs.specs.EventOrder.{event_cmp, moment_cmp, moment_of_event, is_later, is_above_moment, IsFrom}
 
 pub events_total : IsTotalOrder event_cmp
 events_total = search (comparing, rules) depth 20

@@ -14,14 +14,14 @@ use Rattle.std.proofs.Math.Bool.{and_assoc as and_group, or-false as or_none}
 use Rattle.gtfs_field.proofs.NumberFacts.{neither_less, number_itself as equal_itself}
 use Rattle.gtfs_field.proofs.ListFacts.{any_mapped as any-map}
 use Rattle.gtfs_field.specs.TextOrder.{text_cmp}
-use Rattle.gtfs_schema.specs.Values.{if_there}
+use Rattle.gtfs_schema.specs.FieldValues.{if_there}
 use Rattle.gtfs_schema.proofs.SiteFacts.{text_itself}
 use Rattle.gtfs_stop_times.specs.declared.numbers.StopNo.{StopNo}
 use Rattle.gtfs_rows.specs.declared.parts.Parts.{Parts}
 use Rattle.gtfs_rows.specs.declared.stop.Stop.{Stop}
-use Rattle.gtfs_rows.specs.Choices.{location_code}
-use Rattle.gtfs_rows.specs.Order.{Ascends}
-use Rattle.gtfs_rows.specs.Views.{IsSoundParts, content_of_parts, stop_ids, stop_of, text_of_number}
+use Rattle.gtfs_rows.specs.RowChoices.{location_code}
+use Rattle.gtfs_rows.specs.TransferOrder.{Ascends}
+use Rattle.gtfs_rows.specs.RowsInMemory.{IsSoundParts, content_of_parts, stop_ids, stop_of, text_of_number}
 use Rattle.gtfs_rows.proofs.Held.{apart, apart_turned}
 use Rattle.gtfs_rows.proofs.SameElements.{pairs-head, pairs-tail}
 use Rattle.gtfs_rows.proofs.NumberFacts.{stop_parent}

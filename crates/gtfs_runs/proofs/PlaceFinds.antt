@@ -13,28 +13,28 @@ use Rattle.std.proofs.lemmas.List.Elements.{All-head, All-map, All-tail}
 use Rattle.std.proofs.lemmas.List.Sorted.{IsPermutation-refl}
 use Rattle.std.proofs.lemmas.Option.{same_Some, slice_get-get_or}
 use Rattle.std.proofs.lemmas.Simd.{map-map}
-use Rattle.gtfs_schema.specs.Values.{if_there}
+use Rattle.gtfs_schema.specs.FieldValues.{if_there}
 use Rattle.gtfs_field.proofs.ListFacts.{any_mapped, some_of}
 use Rattle.gtfs_field.proofs.NumberFacts.{number_itself as itself}
-use Rattle.gtfs_rows.specs.Order.{Ascends}
+use Rattle.gtfs_rows.specs.TransferOrder.{Ascends}
 use Rattle.gtfs_rows.specs.Trips.{frequencies_by_trip, stop_rows_by_trip}
-use Rattle.gtfs_rows.specs.Views.{IsSoundParts}
+use Rattle.gtfs_rows.specs.RowsInMemory.{IsSoundParts}
 use Rattle.gtfs_rows.specs.declared.frequency.Frequency.{Frequency}
 use Rattle.gtfs_rows.specs.declared.parts.Parts.{Parts}
 use Rattle.gtfs_stop_times.specs.declared.stop_row.StopRow.{StopRow}
 use Rattle.gtfs_rows.specs.declared.trip.Trip.{Trip}
 use Rattle.gtfs_rows.proofs.SameElements.{pairs-head, pairs-map, pairs-tail}
 use Rattle.gtfs_table.proofs.PartFacts.{length-parts}
-use Rattle.gtfs_runs.specs.Counts.{tally}
+use Rattle.gtfs_runs.specs.Tallies.{tally}
 use Rattle.gtfs_runs.specs.StopIndex.{is_this_row}
 use Rattle.gtfs_runs.specs.declared.event.Event.{Event}
-use Rattle.gtfs_runs.specs.declared.stop_index.DepartureRow.{DepartureRow}
+use Rattle.gtfs_runs.specs.declared.departure_row.DepartureRow.{DepartureRow}
 use Rattle.gtfs_runs.specs.declared.stop_lanes.passing.Passing.{Passing}
 use Rattle.gtfs_runs.specs.steps.Courses.{Stopping}
 use Rattle.gtfs_stop_times.specs.StopLists.{stops_in}
-use Rattle.gtfs_runs.specs.steps.Finds.{AreTold, stopping_at, times_passed_in}
+use Rattle.gtfs_runs.specs.steps.FoundEvents.{AreTold, stopping_at, times_passed_in}
 use Rattle.gtfs_runs.specs.steps.Passings.{ArePassings, first_left, leaves, passing_at, passings_of}
-use Rattle.gtfs_runs.specs.steps.Places.{AreOfPlace, ArePlaceRows, IsStopTime, departs_in_place, first_trip, number_cmp, passing_of}
+use Rattle.gtfs_runs.specs.steps.PlaceRows.{AreOfPlace, ArePlaceRows, IsStopTime, departs_in_place, first_trip, number_cmp, passing_of}
 use Rattle.gtfs_runs.proofs.AtStopFacts.{asked_within}
 use Rattle.gtfs_runs.proofs.PlaceRows.{first_lowest, in_place_of, place_within}
 use Rattle.gtfs_runs.proofs.Tallies.{no_trips, one_at}

@@ -4,24 +4,24 @@ use Rattle.std.specs.List.{All, slice_get}
 use Rattle.std.proofs.lemmas.Bool.{ltb-true}
 use Rattle.std.proofs.lemmas.List.Elements.{All-head, All-tail}
 use Rattle.std.proofs.lemmas.Option.{get_or_from_slice_get, slice_get-get_or}
-use Rattle.gtfs_schema.specs.Values.{if_there}
+use Rattle.gtfs_schema.specs.FieldValues.{if_there}
 use Rattle.std.specs.Prelude.{unwrap_or}
 use Rattle.gtfs_rows.specs.Trips.{stop_rows_by_trip}
 use Rattle.gtfs_stop_times.specs.RowTimes.{left_at}
-use Rattle.gtfs_rows.specs.Views.{IsSoundParts}
+use Rattle.gtfs_rows.specs.RowsInMemory.{IsSoundParts}
 use Rattle.gtfs_rows.specs.declared.parts.Parts.{Parts}
-use Rattle.gtfs_stop_times.specs.declared.choices.DropOffType.TheVariants as drop_off
-use Rattle.gtfs_stop_times.specs.declared.choices.PickupType.TheVariants as pickup
+use Rattle.gtfs_stop_times.specs.declared.stop_time_choices.DropOffType.TheVariants as drop_off
+use Rattle.gtfs_stop_times.specs.declared.stop_time_choices.PickupType.TheVariants as pickup
 use Rattle.gtfs_stop_times.specs.declared.stop_row.StopRow.{StopRow}
 use Rattle.gtfs_table.proofs.PartFacts.{length-parts}
 use Rattle.gtfs_times.proofs.FilledContent.{sound-timed}
 use Rattle.gtfs_times.specs.TimedRows.{timed_parts, timed_stop_times}
 use Rattle.gtfs_times.specs.declared.times.Times.{Times}
-use Rattle.gtfs_runs.specs.declared.stop_index.DepartureRow.{DepartureRow}
-use Rattle.gtfs_runs.specs.steps.Noted.{IsNoted, noted_passing}
+use Rattle.gtfs_runs.specs.declared.departure_row.DepartureRow.{DepartureRow}
+use Rattle.gtfs_runs.specs.steps.NotedRows.{IsNoted, noted_passing}
 use Rattle.gtfs_runs.specs.steps.Passings.{first_left}
-use Rattle.gtfs_runs.specs.steps.Places.{IsStopTime, passing_in, passing_of}
-use Rattle.gtfs_runs.specs.steps.RowFinds.{IsInside, row_passing}
+use Rattle.gtfs_runs.specs.steps.PlaceRows.{IsStopTime, passing_in, passing_of}
+use Rattle.gtfs_runs.specs.steps.FoundAtRow.{IsInside, row_passing}
 use Rattle.gtfs_runs.proofs.AtStopFacts.{asked_within}
 use Rattle.gtfs_runs.proofs.TimedTrips.{first_timed, rows_timed, trip_times}
 use Rattle.gtfs_runs.proofs.TripTimes.{rows_at}

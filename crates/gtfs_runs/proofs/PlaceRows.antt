@@ -15,17 +15,17 @@ use Rattle.std.proofs.lemmas.List.Elements.{All-cons, All-head, All-nil, All-tai
 use Rattle.std.proofs.lemmas.List.Kept.{AllPairs-cons, AllPairs-filter}
 use Rattle.std.proofs.lemmas.List.Sorted.{All-permutation, IsPermutation-cons, IsPermutation-middle, IsPermutation-refl, IsPermutation-trans}
 use Rattle.std.proofs.lemmas.Option.{get_or_from_slice_get, slice_get-get_or, slice_get_within}
-use Rattle.gtfs_schema.specs.Values.{if_there}
+use Rattle.gtfs_schema.specs.FieldValues.{if_there}
 use Rattle.gtfs_field.proofs.ListFacts.{any_alike, any_silent, some_of}
 use Rattle.gtfs_field.proofs.NumberFacts.{number_itself as itself}
 use Rattle.gtfs_field.proofs.OrderingFacts.{less as is_less, first_at_most, tied_first as first_tie, tied_second as second_tie}
-use Rattle.gtfs_rows.specs.Choices.{location_code}
+use Rattle.gtfs_rows.specs.RowChoices.{location_code}
 use Rattle.gtfs_rows.specs.Places.{is_in_place, members}
 use Rattle.gtfs_rows.specs.Rows as content
-use Rattle.gtfs_rows.specs.Order.{Ascends}
+use Rattle.gtfs_rows.specs.TransferOrder.{Ascends}
 use Rattle.gtfs_rows.specs.Runs.{is_departure_row}
 use Rattle.gtfs_rows.specs.Trips.{frequencies_by_trip, stop_rows_by_trip}
-use Rattle.gtfs_rows.specs.Views.{IsSoundParts, content_of_parts, stop_ids, stop_row_of, text_of_number, trip_of}
+use Rattle.gtfs_rows.specs.RowsInMemory.{IsSoundParts, content_of_parts, stop_ids, stop_row_of, text_of_number, trip_of}
 use Rattle.gtfs_rows.specs.declared.frequency.Frequency.{Frequency}
 use Rattle.gtfs_rows.specs.declared.parts.Parts.{Parts}
 use Rattle.gtfs_rows.specs.declared.stop.Stop.{Stop}
@@ -38,14 +38,14 @@ use Rattle.gtfs_table.proofs.PartFacts.{length-parts}
 use Rattle.gtfs_times.proofs.TimedContent.{content-timed}
 use Rattle.gtfs_times.specs.TimedRows.{timed_parts}
 use Rattle.gtfs_times.specs.declared.times.Times.{Times}
-use Rattle.gtfs_runs.specs.Counts.{tally}
+use Rattle.gtfs_runs.specs.Tallies.{tally}
 use Rattle.gtfs_runs.specs.StopIndex.{AreDepartureRows, departure_row_cmp, has_departure_row, is_this_row, index_trip_cmp}
-use Rattle.gtfs_runs.specs.declared.stop_index.DepartureRow.{DepartureRow}
+use Rattle.gtfs_runs.specs.declared.departure_row.DepartureRow.{DepartureRow}
 use Rattle.gtfs_runs.specs.declared.stop_index.children.Child.{Child}
 use Rattle.gtfs_runs.specs.steps.Children.{is_child}
 use Rattle.gtfs_runs.specs.steps.AtStops.{departs_of, leaves_stop}
 use Rattle.gtfs_runs.specs.steps.Passings.{leaves}
-use Rattle.gtfs_runs.specs.steps.Places.{AreOfPlace, ArePlaceRows, departs_in_place, first_trip, number_cmp}
+use Rattle.gtfs_runs.specs.steps.PlaceRows.{AreOfPlace, ArePlaceRows, departs_in_place, first_trip, number_cmp}
 use Rattle.gtfs_runs.proofs.ChildFacts.{child_of}
 use Rattle.gtfs_runs.proofs.ContentEvents.{past_trips, row_at}
 use Rattle.gtfs_runs.proofs.ContentRows.{flag_at}

@@ -11,9 +11,9 @@ use Rattle.std.proofs.lemmas.List.Sorted.{All-permutation, IsPermutation-map, Is
 use Rattle.std.proofs.lemmas.Option.{slice_get-get_or}
 use Rattle.std.proofs.lemmas.Simd.{map-map}
 use Rattle.gtfs_field.proofs.ListFacts.{some_of}
-use Rattle.gtfs_rows.specs.Order.{Ascends}
+use Rattle.gtfs_rows.specs.TransferOrder.{Ascends}
 use Rattle.gtfs_rows.specs.Trips.{frequencies_by_trip, stop_rows_by_trip}
-use Rattle.gtfs_rows.specs.Views.{IsSoundParts}
+use Rattle.gtfs_rows.specs.RowsInMemory.{IsSoundParts}
 use Rattle.gtfs_rows.specs.declared.frequency.Frequency.{Frequency}
 use Rattle.gtfs_rows.specs.declared.parts.Parts.{Parts}
 use Rattle.gtfs_stop_times.specs.declared.stop_row.StopRow.{StopRow}
@@ -22,21 +22,22 @@ use Rattle.gtfs_table.proofs.PartFacts.{length-parts}
 use Rattle.gtfs_times.proofs.FilledContent.{sound-timed}
 use Rattle.gtfs_times.specs.TimedRows.{timed_parts, timed_stop_times}
 use Rattle.gtfs_times.specs.declared.times.Times.{Times}
-use Rattle.gtfs_runs.specs.Counts.{is_same, tally}
+use Rattle.gtfs_runs.specs.EventOrder.{is_same}
+use Rattle.gtfs_runs.specs.Tallies.{tally}
 use Rattle.gtfs_runs.specs.StopIndex.{is_this_row}
 use Rattle.gtfs_runs.specs.StopLanes.{LaneValue}
 use Rattle.gtfs_runs.specs.declared.event.Event.{Event}
-use Rattle.gtfs_runs.specs.declared.stop_index.DepartureRow.{DepartureRow}
+use Rattle.gtfs_runs.specs.declared.departure_row.DepartureRow.{DepartureRow}
 use Rattle.gtfs_runs.specs.declared.stop_lanes.listed.ListedEvent.{ListedEvent}
 use Rattle.gtfs_runs.specs.declared.stop_lanes.passing.Passing.{Passing}
 use Rattle.gtfs_runs.specs.steps.Courses.{IsCourse, IsListed, Stopping, course_of, stopping_events, stopping_of}
-use Rattle.gtfs_runs.specs.steps.Finds.{AreFound, AreTold, stopping_at, times_passed, times_passed_in, times_told}
-use Rattle.gtfs_runs.specs.steps.Groups.{trip_group}
+use Rattle.gtfs_runs.specs.steps.FoundEvents.{AreFound, AreTold, stopping_at, times_passed, times_passed_in, times_told}
+use Rattle.gtfs_runs.specs.steps.TripGroups.{trip_group}
 use Rattle.gtfs_stop_times.specs.StopLists.{stops_in}
-use Rattle.gtfs_runs.specs.steps.Noted.{IsNoted}
+use Rattle.gtfs_runs.specs.steps.NotedRows.{IsNoted}
 use Rattle.gtfs_runs.specs.steps.Passings.{ArePassings, first_left, passings_of}
-use Rattle.gtfs_runs.specs.steps.Places.{AreOfPlace, ArePlaceRows, IsStopTime, departs_in_place, first_trip, number_cmp}
-use Rattle.gtfs_runs.specs.steps.RowFinds.{AreAdded, row_lanes, row_passing, row_stopping, row_told, runs_once, sum_over}
+use Rattle.gtfs_runs.specs.steps.PlaceRows.{AreOfPlace, ArePlaceRows, IsStopTime, departs_in_place, first_trip, number_cmp}
+use Rattle.gtfs_runs.specs.steps.FoundAtRow.{AreAdded, row_lanes, row_passing, row_stopping, row_told, runs_once, sum_over}
 use Rattle.gtfs_runs.proofs.PlaceFinds.{are-passings, first_within, nothing_told, raised, rows_raised, stop_times_there}
 use Rattle.gtfs_runs.proofs.PlacePassings.{of_one_trip, passings_noted}
 use Rattle.gtfs_runs.proofs.PlaceRows.{by-number, by_number, first_counted, kept_numbered, left_rows, numbered, own_all, own_trip, own_up}

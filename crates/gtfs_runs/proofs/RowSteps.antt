@@ -11,21 +11,21 @@ use Rattle.gtfs_rows.proofs.TripsAt.{content_trip}
 use Rattle.gtfs_rows.specs.Content.{Content}
 use Rattle.gtfs_rows.specs.Rows as content
 use Rattle.gtfs_rows.specs.Trips.{frequencies_by_trip, stop_rows_by_trip}
-use Rattle.gtfs_rows.specs.Views.{IsSoundParts, content_of_parts, frequency_of, trip_of}
+use Rattle.gtfs_rows.specs.RowsInMemory.{IsSoundParts, content_of_parts, frequency_of, trip_of}
 use Rattle.gtfs_rows.specs.declared.frequency.Frequency.{Frequency}
 use Rattle.gtfs_rows.specs.declared.parts.Parts.{Parts}
 use Rattle.gtfs_times.proofs.FilledContent.{sound-timed}
 use Rattle.gtfs_times.specs.TimedRows.{timed_parts}
-use Rattle.gtfs_runs.specs.Kinds.{IsPeriodLane}
+use Rattle.gtfs_runs.specs.LaneKinds.{IsPeriodLane}
 use Rattle.gtfs_runs.specs.StopLanes.{LaneValue}
 use Rattle.gtfs_runs.specs.declared.event.Event.{Event}
-use Rattle.gtfs_runs.specs.declared.stop_index.DepartureRow.{DepartureRow}
+use Rattle.gtfs_runs.specs.declared.departure_row.DepartureRow.{DepartureRow}
 use Rattle.gtfs_runs.specs.declared.stop_lanes.listed.ListedEvent.{ListedEvent}
 use Rattle.gtfs_runs.specs.steps.Courses.{AreServed, event_of, stopping_of}
-use Rattle.gtfs_runs.specs.steps.Finds.{times_passed_in, times_told}
-use Rattle.gtfs_runs.specs.steps.Groups.{trip_group}
+use Rattle.gtfs_runs.specs.steps.FoundEvents.{times_passed_in, times_told}
+use Rattle.gtfs_runs.specs.steps.TripGroups.{trip_group}
 use Rattle.gtfs_runs.specs.steps.Passings.{first_left, passing_event}
-use Rattle.gtfs_runs.specs.steps.RowFinds.{AreAdded, row_lanes, row_passing, row_periods, row_stopping, row_told, sum_over}
+use Rattle.gtfs_runs.specs.steps.FoundAtRow.{AreAdded, row_lanes, row_passing, row_periods, row_stopping, row_told, sum_over}
 use Rattle.gtfs_runs.proofs.RowFinds.{lanes, stoppings, stoppings-append, sum-append}
 use Rattle.gtfs_runs.proofs.TripTimes.{none_left, rows_at}
 

@@ -7,9 +7,9 @@ use Rattle.gtfs_rows.specs.declared.frequency.Frequency.{Frequency}
 use Rattle.gtfs_rows.specs.declared.parts.Parts.{Parts}
 use Rattle.gtfs_stop_times.specs.declared.stop_row.StopRow.{StopRow}
 use Rattle.gtfs_rows.specs.declared.trip.Trip.{Trip}
-use Rattle.gtfs_rows.specs.Views.{frequency_of, trip_of}
+use Rattle.gtfs_rows.specs.RowsInMemory.{frequency_of, trip_of}
 use Rattle.gtfs_rows.specs.Trips.{ArePeriods}
-use Rattle.gtfs_runs.specs.Counts.{tally}
+use Rattle.gtfs_runs.specs.Tallies.{tally}
 use Rattle.gtfs_rows.specs.Runs.{is_run, starts_run}
 use Rattle.gtfs_runs.proofs.ContentRows.{period_run}
 use Rattle.gtfs_runs.proofs.Tallies.{tally-none, tally-push}

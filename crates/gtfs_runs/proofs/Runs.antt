@@ -7,10 +7,10 @@ use Rattle.std.specs.declared.cmp.Ordering.TheVariants.{Less}
 use Rattle.std.proofs.lemmas.Bool.Decides.{nat_tests}
 use Rattle.std.proofs.lemmas.List.FromFn.{length-map-range_with_len as length-range}
 use Rattle.gtfs_field.proofs.OrderingFacts.{nat-less as less-at}
-use Rattle.gtfs_rows.specs.Order.{Ascends}
+use Rattle.gtfs_rows.specs.TransferOrder.{Ascends}
 use Rattle.gtfs_runs.specs.declared.event.Event.{Event}
-use Rattle.gtfs_runs.specs.Order.{event_cmp, IsFrom, first_of_two}
-use Rattle.gtfs_runs.specs.Periods.{run_event, run_events}
+use Rattle.gtfs_runs.specs.EventOrder.{event_cmp, IsFrom, first_of_two}
+use Rattle.gtfs_runs.specs.PeriodRuns.{run_event, run_events}
 use Rattle.gtfs_runs.proofs.Finding.{get_or-range_0}
 
 step-up : (first : ℕ) (i j h : ℕ) → i < j → 0 < h → first + i * h < first + j * h

@@ -5,8 +5,8 @@ use Rattle.std.specs.List.{find, position}
 use Rattle.std.specs.Ordering.{int_cmp, is_lt, nat_cmp, ordering_then}
 use Rattle.std.specs.declared.cmp.Ordering.{Ordering}
 use Rattle.std.specs.declared.cmp.Ordering.TheVariants.{Less}
-use Rattle.gtfs_rows.specs.Order.{Ascends}
-use Rattle.gtfs_rows.specs.Views.{text_of_number}
+use Rattle.gtfs_rows.specs.TransferOrder.{Ascends}
+use Rattle.gtfs_rows.specs.RowsInMemory.{text_of_number}
 use Rattle.gtfs_field.specs.TextOrder.{text_cmp}
 use Rattle.gtfs_runs.specs.declared.event.Event.{Event}
 use Rattle.gtfs_runs.proofs.TripIds.{between, position_none, same_firsts, then_less, there_same}

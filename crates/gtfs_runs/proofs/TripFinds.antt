@@ -13,19 +13,20 @@ use Rattle.std.proofs.lemmas.List.Elements.{All-append, All-map, filter-append}
 use Rattle.std.proofs.lemmas.List.Sorted.{IsPermutation-append, IsPermutation-refl}
 use Rattle.std.proofs.lemmas.Option.{get_or_from_slice_get, slice_get_within}
 use Rattle.std.proofs.lemmas.Simd.{map-map}
-use Rattle.gtfs_schema.specs.Values.{if_there}
+use Rattle.gtfs_schema.specs.FieldValues.{if_there}
 use Rattle.gtfs_rows.specs.Rows as content
 use Rattle.gtfs_rows.specs.declared.frequency.Frequency.{Frequency}
 use Rattle.gtfs_rows.specs.declared.parts.Parts.{Parts}
 use Rattle.gtfs_stop_times.specs.declared.stop_row.StopRow.{StopRow}
 use Rattle.gtfs_rows.specs.declared.trip.Trip.{Trip}
-use Rattle.gtfs_rows.specs.Views.{IsSoundParts, content_of_parts, frequency_of, service_ids, stop_ids, stop_row_of, text_of_number, trip_of}
+use Rattle.gtfs_rows.specs.RowsInMemory.{IsSoundParts, content_of_parts, frequency_of, service_ids, stop_ids, stop_row_of, text_of_number, trip_of}
 use Rattle.gtfs_rows.specs.Trips.{ArePeriods, frequencies_by_trip, stop_rows_by_trip}
 use Rattle.gtfs_stop_times.specs.RowTimes.{left_at}
 use Rattle.gtfs_rows.proofs.NumberFacts.{trip_service}
 use Rattle.gtfs_rows.proofs.TripFacts.{periods, stop_times}
 use Rattle.gtfs_rows.proofs.TripsAt.{content_trip}
-use Rattle.gtfs_runs.specs.Counts.{is_same, tally}
+use Rattle.gtfs_runs.specs.EventOrder.{is_same}
+use Rattle.gtfs_runs.specs.Tallies.{tally}
 use Rattle.gtfs_runs.specs.Events.{is_event}
 use Rattle.gtfs_runs.specs.Lanes.{Course, courses_of, departure_rows, has_periods, stops_of}
 use Rattle.gtfs_rows.specs.Places.{members}
@@ -34,7 +35,7 @@ use Rattle.gtfs_runs.specs.declared.event.Event.{Event}
 use Rattle.gtfs_runs.specs.declared.stop_lanes.passing.Passing.{Passing}
 use Rattle.gtfs_runs.specs.steps.Courses.{IsCourse, IsListed, Stopping, course_of, stopping_events}
 use Rattle.gtfs_stop_times.specs.StopLists.{stops_in}
-use Rattle.gtfs_runs.specs.steps.Finds.{AreTold, stopping_at, times_passed_in}
+use Rattle.gtfs_runs.specs.steps.FoundEvents.{AreTold, stopping_at, times_passed_in}
 use Rattle.gtfs_runs.specs.steps.Passings.{first_left, leaves, passing_at, passing_event, passings_of}
 use Rattle.gtfs_runs.proofs.ContentEvents.{event_is, is_at}
 use Rattle.gtfs_runs.proofs.ContentRows.{departure_rows_are, own_run, period_run}

@@ -13,10 +13,10 @@ use Rattle.std.proofs.lemmas.Option.{same_Some as some_is, slice_get-get_or}
 use Rattle.std.specs.List.Sorted.{IsPartitionedBy, IsPartitionPoint}
 use Rattle.gtfs_rows.specs.declared.trip.Trip.{Trip}
 use Rattle.gtfs_schema.proofs.SiteFacts.{text_is, text_itself}
-use Rattle.gtfs_rows.specs.Order.{Ascends}
+use Rattle.gtfs_rows.specs.TransferOrder.{Ascends}
 use Rattle.gtfs_rows.proofs.SoundOrder.{in_order}
 use Rattle.gtfs_rows.proofs.SameElements.{pairs-map}
-use Rattle.gtfs_rows.specs.Views.{IsSoundParts, text_of_number, trip_ids}
+use Rattle.gtfs_rows.specs.RowsInMemory.{IsSoundParts, text_of_number, trip_ids}
 use Rattle.gtfs_rows.specs.declared.parts.Parts.{Parts}
 use Rattle.gtfs_field.specs.TextOrder.{text_cmp}
 

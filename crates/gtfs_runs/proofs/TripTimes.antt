@@ -10,11 +10,11 @@ use Rattle.gtfs_table.proofs.PartFacts.{length-parts}
 use Rattle.gtfs_rows.specs.declared.frequency.Frequency.{Frequency}
 use Rattle.gtfs_rows.specs.declared.parts.Parts.{Parts}
 use Rattle.gtfs_stop_times.specs.declared.stop_row.StopRow.{StopRow}
-use Rattle.gtfs_rows.specs.Views.{IsSoundParts}
+use Rattle.gtfs_rows.specs.RowsInMemory.{IsSoundParts}
 use Rattle.gtfs_rows.specs.Trips.{AreStopTimes, frequencies_by_trip, stop_rows_by_trip}
 use Rattle.gtfs_stop_times.specs.RowTimes.{left_at}
 use Rattle.gtfs_rows.proofs.TripFacts.{periods}
-use Rattle.gtfs_runs.specs.steps.Finds.{HasRuns}
+use Rattle.gtfs_runs.specs.steps.FoundEvents.{HasRuns}
 use Rattle.gtfs_runs.specs.steps.Passings.{first_left}
 use Rattle.gtfs_runs.proofs.Bounds.{periods_within, rows_within}
 

@@ -5,30 +5,30 @@ use Rattle.std.specs.List.{All, list_any, slice_get}
 use Rattle.std.proofs.lemmas.Bool.{cases_Bool, eqb-true, or_parts}
 use Rattle.std.proofs.lemmas.List.Elements.{All-push}
 use Rattle.std.proofs.lemmas.Option.{slice_get-get_or}
-use Rattle.gtfs_schema.specs.Values.{if_there}
+use Rattle.gtfs_schema.specs.FieldValues.{if_there}
 use Rattle.gtfs_field.proofs.ListFacts.{some_of}
 use Rattle.gtfs_table.proofs.PartFacts.{length-parts}
 use Rattle.gtfs_rows.specs.Places.{members}
 use Rattle.gtfs_rows.specs.Runs.{is_departure_row}
 use Rattle.gtfs_rows.specs.Trips.{frequencies_by_trip, stop_rows_by_trip}
 use Rattle.gtfs_stop_times.specs.RowTimes.{left_at}
-use Rattle.gtfs_rows.specs.Views.{IsSoundParts, content_of_parts, stop_ids, stop_row_of, text_of_number, trip_of}
+use Rattle.gtfs_rows.specs.RowsInMemory.{IsSoundParts, content_of_parts, stop_ids, stop_row_of, text_of_number, trip_of}
 use Rattle.gtfs_rows.specs.declared.frequency.Frequency.{Frequency}
 use Rattle.gtfs_rows.specs.declared.parts.Parts.{Parts}
 use Rattle.gtfs_rows.specs.declared.trip.Trip.{Trip}
-use Rattle.gtfs_stop_times.specs.ByTrip.{is_at}
+use Rattle.gtfs_stop_times.specs.StopTimesByTrip.{is_at}
 use Rattle.gtfs_stop_times.specs.declared.stop_row.StopRow.{StopRow}
 use Rattle.gtfs_times.proofs.FilledContent.{sound-timed}
 use Rattle.gtfs_times.specs.TimedRows.{timed_parts, timed_stop_times}
 use Rattle.gtfs_times.specs.declared.times.Times.{Times}
-use Rattle.gtfs_runs.specs.Counts.{tally}
+use Rattle.gtfs_runs.specs.Tallies.{tally}
 use Rattle.gtfs_runs.specs.StopIndex.{is_this_row}
-use Rattle.gtfs_runs.specs.declared.stop_index.DepartureRow.{DepartureRow}
+use Rattle.gtfs_runs.specs.declared.departure_row.DepartureRow.{DepartureRow}
 use Rattle.gtfs_stop_times.specs.StopLists.{stops_in}
-use Rattle.gtfs_runs.specs.steps.Noted.{noted_row}
+use Rattle.gtfs_runs.specs.steps.NotedRows.{noted_row}
 use Rattle.gtfs_runs.specs.steps.Passings.{leaves}
-use Rattle.gtfs_runs.specs.steps.Places.{departs_in_place}
-use Rattle.gtfs_runs.specs.steps.RowFinds.{IsInside}
+use Rattle.gtfs_runs.specs.steps.PlaceRows.{departs_in_place}
+use Rattle.gtfs_runs.specs.steps.FoundAtRow.{IsInside}
 use Rattle.gtfs_runs.proofs.AtStopFacts.{alone, asked_here, never}
 use Rattle.gtfs_runs.proofs.PlaceRows.{in_place_of}
 use Rattle.gtfs_runs.proofs.Tallies.{kept, tally-push}

@@ -15,24 +15,24 @@ use Rattle.std.proofs.lemmas.Simd.{map-map}
 use Rattle.gtfs_field.proofs.NumberFacts.{number_itself as itself}
 use Rattle.gtfs_field.proofs.OrderingFacts.{tied as both_equal}
 use Rattle.gtfs_rows.specs.Content.{Content}
-use Rattle.gtfs_rows.specs.Order.{Ascends}
+use Rattle.gtfs_rows.specs.TransferOrder.{Ascends}
 use Rattle.gtfs_rows.specs.declared.frequency.Frequency.{Frequency}
 use Rattle.gtfs_rows.specs.declared.parts.Parts.{Parts}
 use Rattle.gtfs_stop_times.specs.declared.stop_row.StopRow.{StopRow}
 use Rattle.gtfs_rows.specs.declared.trip.Trip.{Trip}
-use Rattle.gtfs_rows.specs.Views.{IsSoundParts, content_of_parts, service_ids, stop_ids, text_of_number, trips_of}
+use Rattle.gtfs_rows.specs.RowsInMemory.{IsSoundParts, content_of_parts, service_ids, stop_ids, text_of_number, trips_of}
 use Rattle.gtfs_rows.specs.Trips.{frequencies_by_trip, stop_rows_by_trip}
-use Rattle.gtfs_runs.specs.Counts.{is_same, tally}
+use Rattle.gtfs_runs.specs.EventOrder.{is_same, event_cmp}
+use Rattle.gtfs_runs.specs.Tallies.{tally}
 use Rattle.gtfs_runs.specs.Events.{is_event}
-use Rattle.gtfs_runs.specs.Kinds.{AreByKind, IsListLane}
+use Rattle.gtfs_runs.specs.LaneKinds.{AreByKind, IsListLane}
 use Rattle.gtfs_runs.specs.Lanes.{Course, course_cmp, courses_of, departure_rows, has_periods, list_count, period_count}
-use Rattle.gtfs_runs.specs.Order.{event_cmp}
 use Rattle.gtfs_runs.specs.StopLanes.{AreLanesOf, LaneValue, events_of_service}
 use Rattle.gtfs_runs.specs.declared.event.Event.{Event}
-use Rattle.gtfs_runs.specs.steps.Apart.{AreApart}
-use Rattle.gtfs_runs.specs.steps.Whole.{AreWhole}
+use Rattle.gtfs_runs.specs.steps.FilledApart.{AreApart}
+use Rattle.gtfs_runs.specs.steps.WholeLanes.{AreWhole}
 use Rattle.gtfs_runs.specs.steps.Courses.{IsCourse, Stopping, course_of, how_many, is_same_course, stopping_cmp, stopping_events}
-use Rattle.gtfs_runs.specs.steps.Finds.{AreFound, times_told}
+use Rattle.gtfs_runs.specs.steps.FoundEvents.{AreFound, times_told}
 use Rattle.gtfs_times.proofs.FilledContent.{sound-timed}
 use Rattle.gtfs_times.proofs.TimedContent.{content-timed}
 use Rattle.gtfs_times.specs.Filling.{timed}

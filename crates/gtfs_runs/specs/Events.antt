@@ -1,7 +1,7 @@
 -- The events of a stop: each run of a trip that passes a departure row at its place, whatever the day.
 -- GTFS Schedule Reference, stop_times.txt, frequencies.txt and trips.txt.
 use Rattle.std.specs.Prelude.{ℕ, ◌==◌, ◌&&◌, Bool, List, bytes_eq, slice_get}
-use Rattle.gtfs_schema.specs.Values.{if_there}
+use Rattle.gtfs_schema.specs.FieldValues.{if_there}
 use Rattle.gtfs_rows.specs.Content.{Content}
 use Rattle.gtfs_rows.specs.Places.{is_in_place}
 use Rattle.gtfs_rows.specs.Runs.{is_run, is_departure_row, passes_at}

@@ -7,9 +7,9 @@ use Rattle.std.specs.Option.{option_cmp, option_eq}
 use Rattle.std.specs.declared.cmp.Ordering.{Ordering}
 use Rattle.std.specs.Ordering.{nat_cmp, on, then_cmp}
 use Rattle.std.specs.Cmp.Lexicographic.{slice_cmp, pointwise}
-use Rattle.gtfs_table.specs.Parts.{parts}
-use Rattle.gtfs_schema.specs.Values.{if_there}
-use Rattle.gtfs_rows.specs.Choices.{direction_code}
+use Rattle.gtfs_table.specs.FieldOffsets.{parts}
+use Rattle.gtfs_schema.specs.FieldValues.{if_there}
+use Rattle.gtfs_rows.specs.RowChoices.{direction_code}
 use Rattle.gtfs_stop_times.specs.declared.numbers.StopNo.{StopNo}
 use Rattle.gtfs_rows.specs.declared.numbers.TripNo.{TripNo}
 use Rattle.gtfs_rows.specs.declared.parts.Parts.{Parts}

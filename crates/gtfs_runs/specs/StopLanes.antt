@@ -3,13 +3,13 @@
 use Rattle.std.specs.Prelude.{◌≡◌, ◌<◌, ◌++◌, ◌==◌, ℕ, All, List, cond, filter, length}
 use Rattle.std.specs.List.{flat_map}
 use Rattle.gtfs_rows.specs.Content.{Content}
-use Rattle.gtfs_rows.specs.Order.{Ascends}
-use Rattle.gtfs_rows.specs.Views.{text_of_number}
-use Rattle.gtfs_runs.specs.Counts.{is_same, tally}
+use Rattle.gtfs_rows.specs.TransferOrder.{Ascends}
+use Rattle.gtfs_rows.specs.RowsInMemory.{text_of_number}
+use Rattle.gtfs_runs.specs.EventOrder.{is_same, event_cmp}
+use Rattle.gtfs_runs.specs.Tallies.{tally}
 use Rattle.gtfs_runs.specs.Events.{is_event}
 use Rattle.gtfs_runs.specs.Lanes.{lane_count}
-use Rattle.gtfs_runs.specs.Order.{event_cmp}
-use Rattle.gtfs_runs.specs.Periods.{run_events}
+use Rattle.gtfs_runs.specs.PeriodRuns.{run_events}
 use Rattle.gtfs_runs.specs.declared.event.Event.{Event}
 use Rattle.gtfs_runs.specs.declared.filled_lane.FilledLane.{FilledLane}
 use Rattle.gtfs_runs.specs.declared.list_lane.ListLane.{ListLane}

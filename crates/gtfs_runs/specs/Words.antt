@@ -4,13 +4,13 @@
 -- ---- `StopLanes::build` and `StopLanes::from_index`: the lanes of a stop
 
 -- the content of a feed: its rows, with ids and headsigns in place of their numbers
-pub use Rattle.gtfs_rows.specs.Views.{content_of_parts}
+pub use Rattle.gtfs_rows.specs.RowsInMemory.{content_of_parts}
 -- a content with its times as given, or with the times of all trips filled
 pub use Rattle.gtfs_times.specs.Filling.{timed}
 -- the ids of the stops, by number
-pub use Rattle.gtfs_rows.specs.Views.{stop_ids}
+pub use Rattle.gtfs_rows.specs.RowsInMemory.{stop_ids}
 -- the ids of the services, by number
-pub use Rattle.gtfs_rows.specs.Views.{service_ids}
+pub use Rattle.gtfs_rows.specs.RowsInMemory.{service_ids}
 -- the text that has a number in a list
 pub use Rattle.gtfs_rows.specs.NamedRows.{text_of_number}
 -- what clauses see of lanes: those of lists, of periods and of filled lists, and the latest second
@@ -26,7 +26,7 @@ pub use Rattle.gtfs_runs.specs.Events.{is_event}
 -- as many lanes as lists and periods: one for each course, and one for each frequency and departure row
 pub use Rattle.gtfs_runs.specs.Lanes.{lane_count}
 -- lists are of trips without frequencies, periods of one frequency, and filled lists have a filled time
-pub use Rattle.gtfs_runs.specs.Kinds.{AreByKind}
+pub use Rattle.gtfs_runs.specs.LaneKinds.{AreByKind}
 -- the latest second at which a run passes a departure row there, 0 where there is none
 pub use Rattle.gtfs_runs.specs.Lanes.{latest}
 -- what clauses see of a list lane
@@ -36,19 +36,19 @@ pub use Rattle.gtfs_runs.specs.StopLanes.{period_value}
 -- what clauses see of a list lane with a filled time
 pub use Rattle.gtfs_runs.specs.StopLanes.{filled_value}
 -- so many events, each a headway after the one before
-pub use Rattle.gtfs_runs.specs.Periods.{run_events}
+pub use Rattle.gtfs_runs.specs.PeriodRuns.{run_events}
 -- ---- `Lane`: the events of a lane, in order
 
 -- the order of events: by time, trip, run, sequence and row
-pub use Rattle.gtfs_runs.specs.Order.{event_cmp}
+pub use Rattle.gtfs_runs.specs.EventOrder.{event_cmp}
 -- an event lies above another
-pub use Rattle.gtfs_runs.specs.Order.{is_later}
+pub use Rattle.gtfs_runs.specs.EventOrder.{is_later}
 -- an event lies above a moment: by time, trip, run and sequence
-pub use Rattle.gtfs_runs.specs.Order.{is_above_moment}
+pub use Rattle.gtfs_runs.specs.EventOrder.{is_above_moment}
 -- an event lies above a seek, which has the id of a trip in place of its number
-pub use Rattle.gtfs_runs.specs.Order.{is_above_seek}
+pub use Rattle.gtfs_runs.specs.EventOrder.{is_above_seek}
 -- the event's trip is one of the feed
-pub use Rattle.gtfs_runs.specs.Order.{IsOfTrips}
+pub use Rattle.gtfs_runs.specs.EventOrder.{IsOfTrips}
 -- ---- `StopIndex`: the departure rows of all stops
 
 -- what clauses see of an index: its feed, its choice of times, and the departure rows of each stop
@@ -68,4 +68,4 @@ pub use Rattle.gtfs_runs.specs.Patterns.{ArePatterns}
 -- the order of texts by their bytes
 pub use Rattle.gtfs_field.specs.TextOrder.{text_cmp}
 -- the ids of the trips, by number
-pub use Rattle.gtfs_rows.specs.Views.{trip_ids}
+pub use Rattle.gtfs_rows.specs.RowsInMemory.{trip_ids}

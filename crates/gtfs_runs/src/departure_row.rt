@@ -1,15 +1,96 @@
-ghost use Rattle.std.specs.Prelude.{◌≡◌, ◌≤◌, ◌<◌, ◌&&◌, All, AllPairs, List, false, length, slice_index_or, unwrap_or};
+ghost use Rattle.std.specs.Prelude.{◌≡◌, ◌≤◌, ◌<◌, ◌&&◌, All, AllPairs, List, false, length, slice_index_or, unwrap_or, IfOk};
 ghost use Rattle.gtfs_stop_times.specs.RowTimes.{left_at};
-ghost use Rattle.gtfs_rows.specs.Views.{stop_row_of, trip_of};
+ghost use Rattle.gtfs_rows.specs.RowsInMemory.{stop_row_of, trip_of};
 ghost use Rattle.gtfs_rows.specs.declared.frequency.Frequency.{Frequency};
 ghost use Rattle.gtfs_rows.specs.declared.parts.Parts.{Parts};
 ghost use Rattle.gtfs_stop_times.specs.declared.stop_row.StopRow.{StopRow as StopTime};
 ghost use Rattle.gtfs_rows.specs.declared.trip.Trip.{Trip};
 ghost use Rattle.gtfs_rows.specs.Runs.{allows_boarding, is_departure_row, is_timed};
+ghost use Rattle.gtfs_runs.specs.steps.NotedRows.{noted_row};
 ghost use Rattle.gtfs_runs.specs.steps.Passings.{first_left};
 
 use crate::place::Place;
-use gtfs_rows::StopRow;
+use gtfs_field::OutOfMemory;
+use gtfs_rows::{StopRow, TripNo};
+use gtfs_stop_times::small_number;
+
+/// A stop time at which riders can leave its stop:
+/// its trip, and its position among the stop times of that trip.
+#[derive(Clone, Copy, Debug, PartialEq, Eq, PartialOrd, Ord)]
+pub struct DepartureRow {
+    trip: u32,
+    row: u32,
+    // When the vehicle leaves, and `stop_sequence`: so lanes are made without a look at the stop
+    // times of many trips, which lie far apart.
+    left: u32,
+    sequence: u32,
+    // How many trips come before its own in an index, by which it finds what is kept of the trip: so
+    // the rows of a stop look at trips that lie one after the other. Outside an index it is 0.
+    rank: u32,
+}
+
+impl DepartureRow {
+    // This stop time of a trip of a rank at a position, all as the index keeps them.
+    pub(crate) fn new(trip: u32, rank: u32, row: u32, stop_time: &StopRow) -> DepartureRow
+        ensures { result ≡ noted_row trip rank row stop_time.now }
+    {
+        DepartureRow {
+            trip,
+            row,
+            left: left(stop_time),
+            sequence: stop_time.stop_sequence,
+            rank,
+        }
+    }
+
+    /// The trip.
+    pub fn trip(&self) -> TripNo
+        ensures { result.0 ≡ self.now.trip }
+    {
+        TripNo(self.trip as usize)
+    }
+
+    /// The position among the stop times of the trip, from 0.
+    pub fn row(&self) -> usize
+        ensures { result ≡ self.now.row }
+    {
+        self.row as usize
+    }
+
+    // When the vehicle leaves, in seconds.
+    pub(crate) fn left(&self) -> u32
+        ensures { result ≡ self.now.left }
+    {
+        self.left
+    }
+
+    // `stop_sequence`.
+    pub(crate) fn sequence(&self) -> u32
+        ensures { result ≡ self.now.sequence }
+    {
+        self.sequence
+    }
+
+    // The rank of the trip in the index.
+    pub(crate) fn rank(&self) -> u32
+        ensures { result ≡ self.now.rank }
+    {
+        self.rank
+    }
+}
+
+// This stop time of a trip of a rank at a position.
+pub(crate) fn row_at(
+    trip: TripNo,
+    rank: u32,
+    position: usize,
+    stop_time: &StopRow,
+) -> Result<DepartureRow, OutOfMemory>
+    ensures { IfOk result (λ row. row ≡ noted_row trip.0 rank position stop_time.now) }
+{
+    let trip = small_number(trip.0)?;
+    Ok(DepartureRow::new(trip, rank, small_number(position)?, stop_time))
+}
 
 // Whether riders can leave a stop at the stop time of this position among those of a trip.
 //

@@ -1,5 +1,5 @@
 ghost use Rattle.std.specs.Prelude.{◌≡◌};
-ghost use Rattle.gtfs_runs.specs.Order.{is_later};
+ghost use Rattle.gtfs_runs.specs.EventOrder.{is_later};
 
 use gtfs_rows::TripNo;
 

@@ -1,12 +1,12 @@
 ghost use Rattle.std.specs.Prelude.{◌≡◌, ◌≤◌, ◌<◌, ◌+◌, ◌++◌, ◌&&◌, ◌==◌, ℕ, List, All, IfOk, OnOk, Some, cond, length, map, slice_get, slice_index_or, unwrap_or};
 ghost use Rattle.gtfs_rows.specs.Trips.{ArePeriods, stop_rows_by_trip};
 ghost use Rattle.gtfs_stop_times.specs.RowTimes.{left_at};
-ghost use Rattle.gtfs_rows.specs.Views.{content_of_parts, frequency_of, stop_ids, stop_row_of, text_of_number, trip_of};
+ghost use Rattle.gtfs_rows.specs.RowsInMemory.{content_of_parts, frequency_of, stop_ids, stop_row_of, text_of_number, trip_of};
 ghost use Rattle.gtfs_rows.specs.declared.frequency.Frequency.{Frequency as FrequencyRow};
 ghost use Rattle.gtfs_rows.specs.declared.parts.Parts.{Parts};
 ghost use Rattle.gtfs_stop_times.specs.declared.stop_row.StopRow.{StopRow as StopTime};
 ghost use Rattle.gtfs_rows.specs.declared.trip.Trip.{Trip};
-ghost use Rattle.gtfs_runs.specs.Counts.{tally};
+ghost use Rattle.gtfs_runs.specs.Tallies.{tally};
 ghost use Rattle.gtfs_runs.specs.FlatEvents.{AreEvents, is_event_of, is_served, served_at};
 ghost use Rattle.gtfs_rows.specs.Places.{members};
 ghost use Rattle.gtfs_rows.specs.Runs.{is_run, passes_at, starts_run};

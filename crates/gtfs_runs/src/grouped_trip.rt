@@ -1,6 +1,6 @@
 ghost use Rattle.std.specs.Prelude.{◌≡◌, ◌<◌, ◌^◌, IfOk, length, slice_index_or};
 ghost use Rattle.std.specs.List.Sorted.{IsPermutation, IsSorted};
-ghost use Rattle.gtfs_runs.specs.steps.Groups.{group_cmp, group_of, grouped_cmp, lead_of, trip_group};
+ghost use Rattle.gtfs_runs.specs.steps.TripGroups.{group_cmp, group_of, grouped_cmp, lead_of, trip_group};
 
 use gtfs_feed::Feed;
 use gtfs_field::OutOfMemory;
@@ -24,7 +24,7 @@ pub(crate) struct GroupedTrip<'a> {
 
 impl<'a> Model for GroupedTrip<'a> {
     ghost use Rattle.std.specs.Prelude.{◌≡◌, ◌<◌, ◌^◌, slice_index_or};
-    ghost use Rattle.gtfs_runs.specs.steps.Groups.{GroupedTripValue, lead_of};
+    ghost use Rattle.gtfs_runs.specs.steps.TripGroups.{GroupedTripValue, lead_of};
 
     ghost Value = { GroupedTripValue };
 

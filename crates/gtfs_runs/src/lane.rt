@@ -1,7 +1,7 @@
 ghost use Rattle.std.specs.Prelude.{◌≡◌, ◌+◌, ◌-◌, ◌^◌, ℕ, All, List, min};
 ghost use Rattle.std.specs.List.{find};
-ghost use Rattle.gtfs_rows.specs.Order.{Ascends};
-ghost use Rattle.gtfs_runs.specs.Order.{IsOfTrips, event_cmp, is_above_moment, is_above_seek, is_later};
+ghost use Rattle.gtfs_rows.specs.TransferOrder.{Ascends};
+ghost use Rattle.gtfs_runs.specs.EventOrder.{IsOfTrips, event_cmp, is_above_moment, is_above_seek, is_later};
 
 use crate::event::Event;
 use crate::moment::Moment;

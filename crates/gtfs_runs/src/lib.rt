@@ -39,6 +39,7 @@ mod stop_index;
 mod stop_lanes;
 mod trips;
 
+pub use departure_row::DepartureRow;
 pub use event::Event;
 pub use filled_lane::FilledLane;
 pub use flat::flat_events;
@@ -51,6 +52,6 @@ pub use pattern::{Pattern, patterns};
 pub use seek::Seek;
 pub use step_lane::StepLane;
 pub use steps::Steps;
-pub use stop_index::{DepartureRow, StopIndex};
+pub use stop_index::StopIndex;
 pub use stop_lanes::StopLanes;
 pub use trips::trips_below;

@@ -1,8 +1,8 @@
 ghost use Rattle.std.specs.Prelude.{◌≡◌, ◌==◌, length};
 ghost use Rattle.std.specs.List.{slice_get};
-ghost use Rattle.gtfs_rows.specs.Order.{Ascends};
-ghost use Rattle.gtfs_runs.specs.Order.{event_cmp};
-ghost use Rattle.gtfs_runs.specs.steps.Lists.{latest_of};
+ghost use Rattle.gtfs_rows.specs.TransferOrder.{Ascends};
+ghost use Rattle.gtfs_runs.specs.EventOrder.{event_cmp};
+ghost use Rattle.gtfs_runs.specs.steps.LatestOfLists.{latest_of};
 
 use crate::event::Event;
 use crate::event_range::EventRange;

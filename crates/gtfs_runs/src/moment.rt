@@ -1,5 +1,5 @@
 ghost use Rattle.std.specs.Prelude.{◌≡◌};
-ghost use Rattle.gtfs_runs.specs.Order.{is_above_moment};
+ghost use Rattle.gtfs_runs.specs.EventOrder.{is_above_moment};
 
 use crate::event::Event;
 use gtfs_rows::TripNo;

@@ -1,7 +1,7 @@
 ghost use Rattle.std.specs.Prelude.{◌≡◌, ◌<◌, ◌++◌, ◌∷◌, [], true, IfOk, OnOk, length, map, filter, option_map};
 ghost use Rattle.std.specs.List.{flat_map};
 ghost use Rattle.std.specs.List.Sorted.{IsPermutation, IsSorted};
-ghost use Rattle.gtfs_rows.specs.Choices.{direction_code};
+ghost use Rattle.gtfs_rows.specs.RowChoices.{direction_code};
 ghost use Rattle.gtfs_runs.specs.Patterns.{ArePatterns, AreGroups, entries_of, entries_under, entry_of, entry_cmp, is_of_route, entry_value, heading_of, is_same_heading, has_a_trip};
 
 use gtfs_feed::Feed;

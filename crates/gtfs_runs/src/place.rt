@@ -1,6 +1,6 @@
 ghost use Rattle.std.specs.Prelude.{◌≡◌, ◌==◌, ◌<◌, IfOk, false, length, option_map, slice_index_or};
-ghost use Rattle.gtfs_schema.specs.Values.{if_there};
-ghost use Rattle.gtfs_rows.specs.Views.{content_of_parts, stop_ids, text_of_number};
+ghost use Rattle.gtfs_schema.specs.FieldValues.{if_there};
+ghost use Rattle.gtfs_rows.specs.RowsInMemory.{content_of_parts, stop_ids, text_of_number};
 ghost use Rattle.gtfs_rows.specs.Places.{is_in_place, members};
 
 use gtfs_feed::Feed;

@@ -1,5 +1,5 @@
 ghost use Rattle.std.specs.Prelude.{◌≡◌, ◌<◌, length};
-ghost use Rattle.gtfs_runs.specs.Order.{is_above_moment, is_above_seek};
+ghost use Rattle.gtfs_runs.specs.EventOrder.{is_above_moment, is_above_seek};
 ghost use Rattle.gtfs_runs.specs.declared.event.Event.{Event};
 
 use crate::moment::Moment;

@@ -1,12 +1,12 @@
 ghost use Rattle.std.specs.Prelude.{◌≡◌, ◌≤◌, ◌<◌, ◌+◌, ◌*◌, ◌-◌, ◌/◌, ◌^◌, Bool, Some, None, if◌then◌else◌, cond, nat_lt, pos, ◌+ℤ◌, ◌≤ℤ◌, ◌<ℤ◌};
 ghost use Rattle.std.specs.List.{find};
 ghost use Rattle.gtfs_runs.specs.declared.event.Event.{Event as EventValue};
-ghost use Rattle.gtfs_rows.specs.Order.{Ascends};
-ghost use Rattle.gtfs_runs.specs.Order.{event_cmp, IsFrom, first_of_two};
-ghost use Rattle.gtfs_rows.specs.Views.{frequency_of};
-ghost use Rattle.gtfs_runs.specs.Counts.{is_same, tally};
-ghost use Rattle.gtfs_runs.specs.steps.Lists.{latest_of};
-ghost use Rattle.gtfs_runs.specs.Periods.{is_of_period, run_event, run_events};
+ghost use Rattle.gtfs_rows.specs.TransferOrder.{Ascends};
+ghost use Rattle.gtfs_runs.specs.EventOrder.{event_cmp, IsFrom, first_of_two, is_same};
+ghost use Rattle.gtfs_rows.specs.RowsInMemory.{frequency_of};
+ghost use Rattle.gtfs_runs.specs.Tallies.{tally};
+ghost use Rattle.gtfs_runs.specs.steps.LatestOfLists.{latest_of};
+ghost use Rattle.gtfs_runs.specs.PeriodRuns.{is_of_period, run_event, run_events};
 
 use crate::event::Event;
 use crate::lane::Lane;

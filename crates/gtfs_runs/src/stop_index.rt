@@ -1,9 +1,9 @@
 ghost use Rattle.std.specs.Prelude.{◌≡◌, ◌<◌, ◌==◌, ℕ, All, IfOk, Some, cond, length, slice_get};
-ghost use Rattle.gtfs_runs.specs.Counts.{tally};
+ghost use Rattle.gtfs_runs.specs.Tallies.{tally};
 ghost use Rattle.gtfs_runs.specs.StopIndex.{AreDepartureRows};
 ghost use Rattle.gtfs_runs.specs.steps.Children.{is_child};
-ghost use Rattle.gtfs_runs.specs.steps.Noted.{IsNoted, noted_row};
-ghost use Rattle.gtfs_runs.specs.steps.Ranked.{IsRanked};
+ghost use Rattle.gtfs_runs.specs.steps.NotedRows.{IsNoted};
+ghost use Rattle.gtfs_runs.specs.steps.IndexedTrips.{IsRanked};
 ghost use Rattle.gtfs_times.specs.TimedRows.{timed_parts};
 
 mod at_stops;
@@ -12,9 +12,8 @@ mod indexed_trips;
 mod rooms;
 mod rows_by_stop;
 
-use crate::departure_row::left;
+use crate::departure_row::DepartureRow;
 use crate::grouped_trip::by_group;
-pub(crate) use crate::stop_index::at_stops::row_at;
 pub(crate) use crate::stop_index::children::Child;
 use crate::stop_index::children::Children;
 pub(crate) use crate::stop_index::indexed_trips::{IndexedTrip, trip_at};
@@ -22,75 +21,10 @@ use crate::stop_index::indexed_trips::{grouped_trips, indexed_trips};
 use crate::stop_index::rows_by_stop::RowsByStop;
 use gtfs_feed::Feed;
 use gtfs_field::OutOfMemory;
-use gtfs_rows::{StopNo, StopRow, TripNo};
+use gtfs_rows::StopNo;
 use gtfs_times::Times;
 use std::alloc::Global;
 use std::marker::Model;
-
-/// A stop time at which riders can leave its stop:
-/// its trip, and its position among the stop times of that trip.
-#[derive(Clone, Copy, Debug, PartialEq, Eq, PartialOrd, Ord)]
-pub struct DepartureRow {
-    trip: u32,
-    row: u32,
-    // When the vehicle leaves, and `stop_sequence`: so lanes are made without a look at the stop
-    // times of many trips, which lie far apart.
-    left: u32,
-    sequence: u32,
-    // How many trips come before its own in an index, by which it finds what is kept of the trip: so
-    // the rows of a stop look at trips that lie one after the other. Outside an index it is 0.
-    rank: u32,
-}
-
-impl DepartureRow {
-    // This stop time of a trip of a rank at a position, all as the index keeps them.
-    pub(crate) fn new(trip: u32, rank: u32, row: u32, stop_time: &StopRow) -> DepartureRow
-        ensures { result ≡ noted_row trip rank row stop_time.now }
-    {
-        DepartureRow {
-            trip,
-            row,
-            left: left(stop_time),
-            sequence: stop_time.stop_sequence,
-            rank,
-        }
-    }
-
-    /// The trip.
-    pub fn trip(&self) -> TripNo
-        ensures { result.0 ≡ self.now.trip }
-    {
-        TripNo(self.trip as usize)
-    }
-
-    /// The position among the stop times of the trip, from 0.
-    pub fn row(&self) -> usize
-        ensures { result ≡ self.now.row }
-    {
-        self.row as usize
-    }
-
-    // When the vehicle leaves, in seconds.
-    pub(crate) fn left(&self) -> u32
-        ensures { result ≡ self.now.left }
-    {
-        self.left
-    }
-
-    // `stop_sequence`.
-    pub(crate) fn sequence(&self) -> u32
-        ensures { result ≡ self.now.sequence }
-    {
-        self.sequence
-    }
-
-    // The rank of the trip in the index.
-    pub(crate) fn rank(&self) -> u32
-        ensures { result ≡ self.now.rank }
-    {
-        self.rank
-    }
-}
 
 /// The departure rows of a feed by stop,
 /// of which the lanes of any stop can be made without a look at the other trips.
@@ -121,10 +55,11 @@ impl<'a> StopIndex<'a> {
     /// The index of a feed under a choice of times. Under [`Times::Interpolated`] stop times whose
     /// times are filled are departure rows too.
     ///
-    /// It goes through the stop times of the feed as they stand in memory to see how much room each
-    /// stop needs, sorts the trips by service, stops and start, and then looks at the stop times
-    /// again for the departure rows, trip after trip in that order. Until the end it keeps four bytes more for each stop time. A
-    /// trip with times to fill is copied for as long as its departure rows are looked for.
+    /// It goes through the stop times of the feed in the order in which they stand in memory, to see
+    /// how much room each stop needs. It sorts the trips by service, stops and start, and then looks
+    /// at the stop times again for the departure rows, trip after trip in that order. Until the end
+    /// it keeps four bytes more for each stop time. A trip with times to fill is copied for as long
+    /// as its departure rows are looked for.
     ///
     /// GTFS Schedule Reference, `stop_times.txt`, and `parent_station` of `stops.txt`.
     ///

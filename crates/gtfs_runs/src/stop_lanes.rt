@@ -1,9 +1,9 @@
 ghost use Rattle.std.specs.Prelude.{◌≡◌, ◌<◌, IfOk, length, map};
-ghost use Rattle.gtfs_rows.specs.Views.{content_of_parts, service_ids, stop_ids, text_of_number};
-ghost use Rattle.gtfs_runs.specs.Kinds.{AreByKind};
+ghost use Rattle.gtfs_rows.specs.RowsInMemory.{content_of_parts, service_ids, stop_ids, text_of_number};
+ghost use Rattle.gtfs_runs.specs.LaneKinds.{AreByKind};
 ghost use Rattle.gtfs_runs.specs.Lanes.{latest};
 ghost use Rattle.gtfs_runs.specs.StopLanes.{AreLanesOf, filled_value, lanes_of, list_value, period_value};
-ghost use Rattle.gtfs_runs.specs.steps.Whole.{AreWhole};
+ghost use Rattle.gtfs_runs.specs.steps.WholeLanes.{AreWhole};
 ghost use Rattle.gtfs_times.specs.Filling.{timed};
 
 mod found;

@@ -2,7 +2,7 @@
 ghost use Rattle.std.specs.Prelude.{◌≡◌, ◌<◌, ℕ, length, nat_lt};
 ghost use Rattle.std.specs.Ordering.{is_lt};
 ghost use Rattle.gtfs_field.specs.TextOrder.{text_cmp};
-ghost use Rattle.gtfs_rows.specs.Views.{text_of_number, trip_ids};
+ghost use Rattle.gtfs_rows.specs.RowsInMemory.{text_of_number, trip_ids};
 
 use gtfs_feed::Feed;
 

@@ -4,8 +4,8 @@ use Rattle.std.specs.Prelude.{◌&&◌, ◌||◌, ◌==◌, bytes_eq}
 use Rattle.gtfs_table.specs.declared.file.File.{File}
 use Rattle.gtfs_schema.specs.declared.code.Code.{Code}
 use Rattle.gtfs_schema.specs.steps.FieldCodes.{is_found_at, is_in_row}
-use Rattle.gtfs_schema.specs.steps.Found.{Adds, is_same}
-use Rattle.gtfs_schema.specs.steps.Picks.{is_kept}
+use Rattle.gtfs_schema.specs.steps.FoundProblems.{Adds, is_same}
+use Rattle.gtfs_schema.specs.steps.KeptColumns.{is_kept}
 use Rattle.gtfs_schema.specs.Problems.{Problem, is_code, lists_problem}
 use Rattle.gtfs_schema.proofs.SiteFacts.{problem_at, same_at_column}
 

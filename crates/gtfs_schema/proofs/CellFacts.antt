@@ -6,12 +6,12 @@ use Rattle.gtfs_field.specs.declared.fault.FieldFault.{FieldFault}
 use Rattle.gtfs_field.specs.declared.fault.FieldFault.TheVariants.{Form, Range}
 use Rattle.gtfs_schema.specs.declared.code.Code.{Code}
 use Rattle.gtfs_schema.specs.declared.code.Code.TheVariants as code
-use Rattle.gtfs_schema.specs.steps.Cells.{cell_code, code_of, fault_code, is_found, when}
+use Rattle.gtfs_schema.specs.steps.CellFaults.{cell_code, code_of, fault_code, is_found, when}
 use Rattle.gtfs_schema.specs.Columns.{Kind, id, text, count, choice, time, date, colour, coordinate, Column}
 use Rattle.gtfs_schema.specs.FieldRules.{is_id, is_text, is_form_fault, is_range_fault}
 use Rattle.gtfs_schema.specs.ColumnRules.{is_required}
 use Rattle.gtfs_schema.specs.Problems.{is_code}
-use Rattle.gtfs_schema.specs.Values.{Value, read_as, has_control}
+use Rattle.gtfs_schema.specs.FieldValues.{Value, read_as, has_control}
 use Rattle.gtfs_table.specs.Rows.{is_empty}
 
 -- ---- a text that is not empty

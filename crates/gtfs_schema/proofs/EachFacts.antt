@@ -7,7 +7,7 @@ use Rattle.std.proofs.lemmas.List.Folds.{list_any_at, list_any_more}
 use Rattle.std.proofs.lemmas.List.FromFn.{get_or-range_with_len, length-range_with_len}
 use Rattle.std.proofs.Math.Bool.{and-false}
 use Rattle.gtfs_table.specs.Tables.{Dataset}
-use Rattle.gtfs_schema.specs.steps.Found.{Reports}
+use Rattle.gtfs_schema.specs.steps.FoundProblems.{Reports}
 use Rattle.gtfs_schema.specs.Problems.{Problem, is_problem}
 use Rattle.gtfs_schema.proofs.ReportingFacts.{reports_alike, reports_then}
 

@@ -7,13 +7,13 @@ use Rattle.gtfs_table.specs.Tables.{Dataset}
 use Rattle.gtfs_table.specs.declared.file.File.{File}
 use Rattle.gtfs_schema.specs.declared.code.Code.{Code}
 use Rattle.gtfs_schema.specs.declared.code.Code.TheVariants as code
-use Rattle.gtfs_schema.specs.steps.Cells.{cell_code, fault_code, is_found, when}
+use Rattle.gtfs_schema.specs.steps.CellFaults.{cell_code, fault_code, is_found, when}
 use Rattle.gtfs_schema.specs.Columns.{Column, column_named}
 use Rattle.gtfs_schema.specs.ColumnRules.{is_required}
 use Rattle.gtfs_schema.specs.FieldRules.{is_id, is_form_fault, value_empty, value_unreadable, value_out_of_range, control_in_id, control_in_text}
 use Rattle.gtfs_table.specs.Rows.{records_in, is_row, is_empty}
-use Rattle.gtfs_schema.specs.Rows.{is_named, text_in}
-use Rattle.gtfs_schema.specs.Values.{has_control, read_as}
+use Rattle.gtfs_schema.specs.RowConditions.{is_named, text_in}
+use Rattle.gtfs_schema.specs.FieldValues.{has_control, read_as}
 use Rattle.gtfs_schema.proofs.CellFacts.{fault_other, unreadable_found, out_of_range_found, control_in_id_found, control_in_text_found}
 
 -- a text that is not empty has the faults of its kind

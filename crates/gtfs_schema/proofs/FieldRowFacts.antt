@@ -9,15 +9,15 @@ use Rattle.gtfs_table.specs.Tables.{Dataset}
 use Rattle.gtfs_table.specs.declared.file.File.{File}
 use Rattle.gtfs_schema.specs.declared.code.Code.{Code}
 use Rattle.gtfs_schema.specs.declared.code.Code.TheVariants as code
-use Rattle.gtfs_schema.specs.steps.Cells.{cell_code, is_found, when}
+use Rattle.gtfs_schema.specs.steps.CellFaults.{cell_code, is_found, when}
 use Rattle.gtfs_schema.specs.Columns.{Column, column_named}
 use Rattle.gtfs_schema.specs.steps.FieldCodes.{field_codes, in_file_of, is_in_row, length_code}
 use Rattle.gtfs_schema.specs.FieldRules.{field_count, value_empty, value_unreadable, value_out_of_range, control_in_id, control_in_text}
-use Rattle.gtfs_schema.specs.steps.Picks.{is_kept, of_codes}
+use Rattle.gtfs_schema.specs.steps.KeptColumns.{is_kept, of_codes}
 use Rattle.gtfs_schema.specs.Problems.{Problem, holds, holds_in, is_code, is_problem}
-use Rattle.gtfs_schema.specs.Rows.{is_named, text_in}
+use Rattle.gtfs_schema.specs.RowConditions.{is_named, text_in}
 use Rattle.gtfs_table.specs.Rows.{is_row, records_in, is_empty}
-use Rattle.gtfs_schema.specs.Values.{if_there}
+use Rattle.gtfs_schema.specs.FieldValues.{if_there}
 use Rattle.gtfs_schema.proofs.BoolFacts.{and_parts, and_under}
 use Rattle.gtfs_schema.proofs.CellFacts.{cell_other}
 use Rattle.gtfs_schema.proofs.FieldFacts.{empty_reported, unreadable_reported, out_of_range_reported, control_in_id_reported, control_in_text_reported}

@@ -13,10 +13,10 @@ use Rattle.std.proofs.lemmas.List.Kept.{IsStrictlySortedBy-dedup}
 use Rattle.std.proofs.lemmas.List.Sorted.{list_any-IsPermutation}
 use Rattle.gtfs_field.proofs.ListFacts.{any_mapped}
 use Rattle.gtfs_schema.specs.declared.problem.Problem.{Problem as LentProblem}
-use Rattle.gtfs_schema.specs.steps.Found.{is_same, SameProblems}
+use Rattle.gtfs_schema.specs.steps.FoundProblems.{is_same, SameProblems}
 use Rattle.gtfs_schema.specs.steps.ProblemOrder.{problem_total}
 use Rattle.gtfs_schema.specs.Problems.{Problem, problem_cmp, lists_problem}
-use Rattle.gtfs_schema.specs.View.{problem_of}
+use Rattle.gtfs_schema.specs.ProblemTexts.{problem_of}
 
 -- ---- a problem more
 

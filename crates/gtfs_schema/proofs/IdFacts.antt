@@ -26,7 +26,7 @@ use Rattle.gtfs_schema.specs.steps.IdRows.{id_and_row, id_of, listed_row}
 use Rattle.gtfs_table.specs.Rows.{rows}
 use Rattle.gtfs_table.specs.Tables.{Dataset}
 use Rattle.gtfs_table.specs.declared.file.File.{File}
-use Rattle.gtfs_schema.specs.Rows.{row_with, text_in}
+use Rattle.gtfs_schema.specs.RowConditions.{row_with, text_in}
 use Rattle.gtfs_schema.proofs.NamedFacts.{text_turned}
 
 -- ---- in the order of the file

@@ -16,7 +16,7 @@ use Rattle.std.proofs.lemmas.Map.Text.{is_eq-slice_cmp}
 use Rattle.gtfs_field.specs.TextOrder.{text_cmp}
 use Rattle.gtfs_schema.specs.declared.id_row.IdRow.{IdRow}
 use Rattle.gtfs_schema.specs.steps.IdRows.{id_and_row, id_of, listed_row}
-use Rattle.gtfs_schema.specs.Values.{has_control}
+use Rattle.gtfs_schema.specs.FieldValues.{has_control}
 use Rattle.std.specs.List.{All, list_all}
 use Rattle.std.proofs.lemmas.Bool.{not-true}
 use Rattle.std.proofs.lemmas.List.Folds.{list_all-map}

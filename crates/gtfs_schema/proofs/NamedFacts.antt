@@ -9,9 +9,9 @@ use Rattle.gtfs_table.specs.Tables.{Dataset, column_of, record_at}
 use Rattle.gtfs_table.specs.declared.file.File.{File}
 use Rattle.gtfs_table.specs.declared.file.File.TheVariants as file
 use Rattle.gtfs_schema.specs.Columns.{Column, columns_of, column_named}
-use Rattle.gtfs_schema.specs.Rows.{is_named}
+use Rattle.gtfs_schema.specs.RowConditions.{is_named}
 use Rattle.gtfs_table.specs.Rows.{records_in, is_empty}
-use Rattle.gtfs_schema.specs.Values.{if_there}
+use Rattle.gtfs_schema.specs.FieldValues.{if_there}
 use Rattle.std.proofs.Math.Bool.{or-false}
 use Rattle.gtfs_field.proofs.ListFacts.{any_alike, any_mapped, count_any, position_any}
 use Rattle.gtfs_field.proofs.OptionFacts.{is_some-cond}

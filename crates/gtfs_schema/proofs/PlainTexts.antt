@@ -6,7 +6,7 @@ use Rattle.std.proofs.lemmas.Grind.{common_steps}
 use Rattle.std.proofs.lemmas.List.{length-map, map-append}
 use Rattle.std.proofs.lemmas.Str.{encode_ascii, inside_one}
 use Rattle.gtfs_table.specs.Blanks.{is_control}
-use Rattle.gtfs_schema.specs.Values.{has_control, plain}
+use Rattle.gtfs_schema.specs.FieldValues.{has_control, plain}
 
 -- a space for a control character, and any other as it is
 abbrev pub shown : ℕ → ℕ

@@ -20,9 +20,9 @@ use Rattle.gtfs_schema.specs.Columns.{Kind, id, text, count, choice, time, date,
 use Rattle.gtfs_schema.specs.FieldRules.{is_id, is_text, is_form_fault, is_range_fault}
 use Rattle.gtfs_schema.specs.Problems.{Passes, holds_in, kept}
 use Rattle.gtfs_schema.specs.ReadRules.{IsReadAs, IsReadUnder, StandsAs, StandsUnder, may_lack}
-use Rattle.gtfs_schema.specs.Rows.{is_named, text_in}
-use Rattle.gtfs_schema.specs.Values.{Value, as_amount, value_of_count, has_control, meaning, measured, one_of, read_as, readable}
-use Rattle.gtfs_schema.specs.Reads.{amount_of, word_of}
+use Rattle.gtfs_schema.specs.RowConditions.{is_named, text_in}
+use Rattle.gtfs_schema.specs.FieldValues.{Value, as_amount, value_of_count, has_control, meaning, measured, one_of, read_as, readable}
+use Rattle.gtfs_schema.specs.ReadFields.{amount_of, word_of}
 use Rattle.gtfs_field.specs.Kinds.{count_of, time_of, date_of, colour_of, coordinate_of}
 use Rattle.gtfs_field.proofs.OptionFacts.{is_some-map as mapped_some}
 

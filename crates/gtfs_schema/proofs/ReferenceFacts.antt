@@ -10,8 +10,8 @@ use Rattle.gtfs_schema.specs.steps.Ids.{first_rows, FirstRows}
 use Rattle.gtfs_schema.specs.KeyRules.{is_known, unknown_reference}
 use Rattle.gtfs_schema.specs.References.{Reference, references}
 use Rattle.gtfs_schema.specs.steps.ReferencePicks.{route_names, service_names, stop_names, trip_names}
-use Rattle.gtfs_schema.specs.Reads.{is_id}
-use Rattle.gtfs_schema.specs.Rows.{is_file, row_with, text_in, value_in}
+use Rattle.gtfs_schema.specs.ReadFields.{is_id}
+use Rattle.gtfs_schema.specs.RowConditions.{is_file, row_with, text_in, value_in}
 use Rattle.gtfs_table.specs.Rows.{is_row, records_in}
 use Rattle.gtfs_schema.specs.steps.UnknownIds.{is_unknown}
 use Rattle.gtfs_schema.proofs.BoolFacts.{and_parts}

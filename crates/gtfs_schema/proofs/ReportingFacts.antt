@@ -4,7 +4,7 @@ use Rattle.std.specs.Prelude.{◌&&◌, ◌||◌}
 use Rattle.std.specs.Cmp.{Equal-is}
 use Rattle.std.proofs.lemmas.Bool.{cases_Bool}
 use Rattle.gtfs_table.specs.Tables.{Dataset}
-use Rattle.gtfs_schema.specs.steps.Found.{Adds, ListsAll, Reports, is_same}
+use Rattle.gtfs_schema.specs.steps.FoundProblems.{Adds, ListsAll, Reports, is_same}
 use Rattle.gtfs_schema.specs.steps.ProblemOrder.{problem_anti}
 use Rattle.gtfs_schema.specs.Problems.{Problem, problem_cmp, lists_problem, is_problem}
 

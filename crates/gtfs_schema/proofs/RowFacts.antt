@@ -8,7 +8,7 @@ use Rattle.gtfs_table.specs.Rows.{Row, is_among, is_row, numbers, records_in, ro
 use Rattle.gtfs_table.specs.Tables.{Dataset}
 use Rattle.gtfs_table.specs.declared.file.File.{File}
 use Rattle.gtfs_table.proofs.RowFacts.{numbers_more, row_among}
-use Rattle.gtfs_schema.specs.steps.Found.{Reports}
+use Rattle.gtfs_schema.specs.steps.FoundProblems.{Reports}
 use Rattle.gtfs_schema.specs.Problems.{Problem, is_problem}
 use Rattle.gtfs_schema.proofs.BoolFacts.{same_test, and_parts}
 use Rattle.gtfs_schema.proofs.ReportingFacts.{reports_alike, reports_none, reports_then}

@@ -9,11 +9,11 @@ use Rattle.gtfs_field.proofs.NumberFacts.{number_itself}
 use Rattle.gtfs_table.specs.declared.file.File.{File}
 use Rattle.gtfs_schema.specs.declared.code.Code.{Code}
 use Rattle.gtfs_schema.specs.Codes.{code_rank}
-use Rattle.gtfs_schema.specs.steps.Found.{is_same}
-use Rattle.gtfs_schema.specs.steps.Picks.{at_column, is_kept}
+use Rattle.gtfs_schema.specs.steps.FoundProblems.{is_same}
+use Rattle.gtfs_schema.specs.steps.KeptColumns.{at_column, is_kept}
 use Rattle.gtfs_schema.specs.Problems.{FileName, kept, other, Problem, is_code, problem_cmp}
 use Rattle.gtfs_schema.specs.steps.ProblemOrder.{problem_anti, problem_total, same_code, same_file}
-use Rattle.gtfs_schema.specs.Rows.{is_file, file_rank}
+use Rattle.gtfs_schema.specs.RowConditions.{is_file, file_rank}
 use Rattle.gtfs_schema.proofs.BoolFacts.{same_test, and_parts}
 
 pub code_is : (a b : Code) → is_code a b ≡ true → a ≡ b

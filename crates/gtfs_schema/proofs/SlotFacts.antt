@@ -3,7 +3,7 @@ use Rattle.std.proofs.Common.{◌≡◌, ℕ, ◌<◌, List, length, get_or, byt
 use Rattle.gtfs_schema.specs.declared.id_row.IdRow.{IdRow}
 use Rattle.gtfs_schema.specs.steps.Ids.{AnswersRow, FirstRows, IsIdIndex}
 use Rattle.gtfs_schema.specs.steps.IdRows.{id_of}
-use Rattle.gtfs_schema.specs.steps.Slots.{held_id}
+use Rattle.gtfs_schema.specs.steps.IdSlots.{held_id}
 use Rattle.gtfs_schema.proofs.IdFacts.{found_there}
 use Rattle.gtfs_schema.proofs.IdNumberFacts.{numbered_at}
 use Rattle.gtfs_schema.proofs.SiteFacts.{text_itself}

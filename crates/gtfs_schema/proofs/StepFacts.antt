@@ -8,10 +8,10 @@ use Rattle.gtfs_table.specs.Tables.{Dataset}
 use Rattle.gtfs_table.specs.declared.file.File.{File}
 use Rattle.gtfs_schema.specs.declared.code.Code.{Code}
 use Rattle.gtfs_schema.specs.declared.code.Code.TheVariants as code
-use Rattle.gtfs_schema.specs.steps.Found.{Reports}
-use Rattle.gtfs_schema.specs.steps.Picks.{at_column, in_file, is_kept, of_codes}
+use Rattle.gtfs_schema.specs.steps.FoundProblems.{Reports}
+use Rattle.gtfs_schema.specs.steps.KeptColumns.{at_column, in_file, is_kept, of_codes}
 use Rattle.gtfs_schema.specs.Problems.{FileName, kept, other, Problem, holds, holds_in, is_code, is_problem}
-use Rattle.gtfs_schema.specs.Rows.{is_file, file_rank, Rule, Condition, reported_at, any_of}
+use Rattle.gtfs_schema.specs.RowConditions.{is_file, file_rank, Rule, Condition, reported_at, any_of}
 use Rattle.gtfs_table.specs.Rows.{is_row, records_in}
 use Rattle.gtfs_schema.proofs.EachFacts.{any_follows, any_gives}
 -- a test alone among none

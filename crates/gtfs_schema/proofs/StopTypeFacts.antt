@@ -11,12 +11,12 @@ use Rattle.gtfs_table.specs.declared.file.File.{File}
 use Rattle.gtfs_table.specs.declared.file.File.TheVariants as file
 use Rattle.gtfs_schema.specs.Columns.{id}
 use Rattle.gtfs_schema.specs.steps.Ids.{first_row_with, first_rows, FirstRows}
-use Rattle.gtfs_schema.specs.Reads.{word_of}
-use Rattle.gtfs_schema.specs.Rows.{choice_in, is_file, row_with, text_in}
+use Rattle.gtfs_schema.specs.ReadFields.{word_of}
+use Rattle.gtfs_schema.specs.RowConditions.{choice_in, is_file, row_with, text_in}
 use Rattle.gtfs_table.specs.Rows.{records_in}
 use Rattle.gtfs_schema.specs.steps.StopTypes.{AreStopTypes, type_in_text, type_of, type_with}
 use Rattle.gtfs_schema.specs.StopRules.{has_parent_of_other_type, names_none_of, wrong_kind_of_stop}
-use Rattle.gtfs_schema.specs.Values.{if_there, is_one_of}
+use Rattle.gtfs_schema.specs.FieldValues.{if_there, is_one_of}
 use Rattle.gtfs_schema.proofs.IdFacts.{first_row_is}
 use Rattle.gtfs_schema.proofs.BoolFacts.{and_parts}
 use Rattle.gtfs_schema.proofs.SiteFacts.{is_site}

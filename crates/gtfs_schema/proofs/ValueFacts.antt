@@ -3,7 +3,7 @@ use Rattle.std.proofs.Common.{◌≡◌, ℕ, ℤ, pos, List, Option, Some, None
 use Rattle.std.specs.Option.{option_and_then, option_map}
 use Rattle.std.specs.Result.{result_ok}
 use Rattle.gtfs_field.specs.declared.fault.FieldFault.{FieldFault}
-use Rattle.gtfs_schema.specs.Values.{Value, amount, as_amount, as_word, value_of_count, is_word, word}
+use Rattle.gtfs_schema.specs.FieldValues.{Value, amount, as_amount, as_word, value_of_count, is_word, word}
 use Rattle.gtfs_schema.proofs.SiteFacts.{text_is}
 
 pub word_value : (v : Option Value) (t : List ℕ) → option_and_then as_word v ≡ Some t → v ≡ Some (word t)

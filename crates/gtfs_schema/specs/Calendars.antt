@@ -11,9 +11,9 @@ use Rattle.gtfs_days.specs.declared.exception.Exception.TheVariants.{Added, Remo
 use Rattle.gtfs_table.specs.Tables.{Dataset}
 use Rattle.gtfs_table.specs.declared.file.File.{File}
 use Rattle.gtfs_table.specs.declared.file.File.TheVariants as file
-use Rattle.gtfs_schema.specs.Values.{is_word}
+use Rattle.gtfs_schema.specs.FieldValues.{is_word}
 use Rattle.gtfs_table.specs.Rows.{rows}
-use Rattle.gtfs_schema.specs.Rows.{word_in, amount_in}
+use Rattle.gtfs_schema.specs.RowConditions.{word_in, amount_in}
 
 -- the rows of a file with this service id
 abbrev pub service_rows : Dataset → File → List ℕ → List ℕ

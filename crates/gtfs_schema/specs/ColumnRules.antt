@@ -3,8 +3,8 @@
 use Rattle.std.specs.Prelude.{◌==◌, ◌&&◌, not, Bool, true, false, nat_lt}
 use Rattle.gtfs_schema.specs.Columns.{Empty, refused, nothing, means, Column, column_named}
 use Rattle.gtfs_table.specs.Rows.{is_empty, has_no_record}
-use Rattle.gtfs_schema.specs.Values.{if_there}
-use Rattle.gtfs_schema.specs.Rows.{times_named, is_named, is_kept_column, Condition}
+use Rattle.gtfs_schema.specs.FieldValues.{if_there}
+use Rattle.gtfs_schema.specs.RowConditions.{times_named, is_named, is_kept_column, Condition}
 
 -- the header has to name the column, and each row has to have a value in it
 abbrev pub is_required : Column → Bool

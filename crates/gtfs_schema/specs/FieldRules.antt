@@ -6,9 +6,9 @@ use Rattle.gtfs_field.specs.declared.fault.FieldFault.TheVariants.{Form, Range}
 use Rattle.gtfs_table.specs.Tables.{Dataset, record_at}
 use Rattle.gtfs_table.specs.declared.file.File.{File}
 use Rattle.gtfs_schema.specs.Columns.{Kind, id, text, count, choice, time, date, colour, coordinate, Column, column_named}
-use Rattle.gtfs_schema.specs.Values.{Value, read_as, has_control, if_there}
+use Rattle.gtfs_schema.specs.FieldValues.{Value, read_as, has_control, if_there}
 use Rattle.gtfs_table.specs.Rows.{is_empty, records_in, is_row}
-use Rattle.gtfs_schema.specs.Rows.{is_named, text_in, Condition}
+use Rattle.gtfs_schema.specs.RowConditions.{is_named, text_in, Condition}
 use Rattle.gtfs_schema.specs.ColumnRules.{is_required}
 
 abbrev pub is_id : Kind → Bool

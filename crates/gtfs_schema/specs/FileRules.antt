@@ -9,7 +9,7 @@ use Rattle.gtfs_table.specs.declared.file.File.TheVariants as file
 use Rattle.gtfs_table.specs.declared.state.State.{State}
 use Rattle.gtfs_table.specs.declared.state.State.TheVariants as state
 use Rattle.gtfs_table.specs.Rows.{is_empty, has_no_record, rows}
-use Rattle.gtfs_schema.specs.Rows.{is_file, Condition}
+use Rattle.gtfs_schema.specs.RowConditions.{is_file, Condition}
 
 abbrev pub is_absent_state : State → Bool
 is_absent_state state.Absent = true

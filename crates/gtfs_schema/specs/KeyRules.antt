@@ -6,9 +6,9 @@ use Rattle.std.specs.Cmp.Lexicographic.{pointwise}
 use Rattle.gtfs_table.specs.Tables.{Dataset}
 use Rattle.gtfs_table.specs.declared.file.File.{File}
 use Rattle.gtfs_schema.specs.References.{key_columns, reported_column, takes_empty_parts, references}
-use Rattle.gtfs_schema.specs.Values.{Value, word, value_eq, if_both}
+use Rattle.gtfs_schema.specs.FieldValues.{Value, word, value_eq, if_both}
 use Rattle.gtfs_table.specs.Rows.{is_empty, records_in, is_row, rows}
-use Rattle.gtfs_schema.specs.Rows.{is_file, text_in, value_in, row_with, Condition}
+use Rattle.gtfs_schema.specs.RowConditions.{is_file, text_in, value_in, row_with, Condition}
 
 -- ---- E09 key twice
 

@@ -5,9 +5,9 @@ use Rattle.std.specs.List.{list_any}
 use Rattle.std.specs.Int.{int_max, int_min}
 use Rattle.gtfs_table.specs.Tables.{Dataset}
 use Rattle.gtfs_table.specs.declared.file.File.TheVariants as file
-use Rattle.gtfs_schema.specs.Values.{if_there, if_both, is_word}
+use Rattle.gtfs_schema.specs.FieldValues.{if_there, if_both, is_word}
 use Rattle.gtfs_table.specs.Rows.{rows}
-use Rattle.gtfs_schema.specs.Rows.{word_in, amount_in, Rule, Condition, reported_at}
+use Rattle.gtfs_schema.specs.RowConditions.{word_in, amount_in, Rule, Condition, reported_at}
 
 abbrev pub period_start : Dataset → ℕ → Option ℤ
 period_start d n = amount_in d file.Frequencies n "start_time"

@@ -5,14 +5,14 @@ use Rattle.std.specs.List.{list_any, list_all}
 use Rattle.std.specs.List.Sorted.{IsStrictlySortedBy}
 use Rattle.std.specs.Ordering.{nat_cmp, is_eq, on, then_cmp}
 use Rattle.std.specs.declared.cmp.Ordering.{Ordering}
-use Rattle.gtfs_table.specs.Files.{file_name}
+use Rattle.gtfs_table.specs.FileNames.{file_name}
 use Rattle.gtfs_field.specs.TextOrder.{text_cmp}
 use Rattle.gtfs_table.specs.Tables.{Dataset}
 use Rattle.gtfs_table.specs.declared.file.File.{File}
 use Rattle.gtfs_schema.specs.declared.code.Code.{Code}
 use Rattle.gtfs_schema.specs.declared.code.Code.TheVariants as code
 use Rattle.gtfs_schema.specs.Codes.{code_rank, is_error}
-use Rattle.gtfs_schema.specs.Rows.{file_rank, Condition}
+use Rattle.gtfs_schema.specs.RowConditions.{file_rank, Condition}
 use Rattle.gtfs_schema.specs.FileRules.{file_missing, not_utf8, file_empty, file_not_kept}
 use Rattle.gtfs_schema.specs.ColumnRules.{column_missing, column_twice, column_not_kept}
 use Rattle.gtfs_schema.specs.FieldRules.{value_empty, value_unreadable, value_out_of_range, control_in_id, control_in_text, row_short, row_long}

@@ -6,8 +6,8 @@ use Rattle.gtfs_table.specs.Rows.{is_empty, is_row, records_in}
 use Rattle.gtfs_table.specs.declared.file.File.{File}
 use Rattle.gtfs_schema.specs.Columns.{Kind, Empty, refused, nothing, means, Column, column_named}
 use Rattle.gtfs_schema.specs.Problems.{Passes}
-use Rattle.gtfs_schema.specs.Rows.{text_in}
-use Rattle.gtfs_schema.specs.Values.{readable, meaning}
+use Rattle.gtfs_schema.specs.RowConditions.{text_in}
+use Rattle.gtfs_schema.specs.FieldValues.{readable, meaning}
 
 -- an empty value of the column is no value
 abbrev pub may_lack : Empty → Bool

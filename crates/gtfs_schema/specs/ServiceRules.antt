@@ -8,8 +8,8 @@ use Rattle.gtfs_table.specs.declared.file.File.{File}
 use Rattle.gtfs_table.specs.declared.file.File.TheVariants as file
 use Rattle.gtfs_schema.specs.Columns.{columns_of}
 use Rattle.gtfs_schema.specs.References.{reported_column}
-use Rattle.gtfs_schema.specs.Values.{if_there, if_both}
-use Rattle.gtfs_schema.specs.Rows.{is_file, value_in, word_in, amount_in, Rule, Condition, reported_at, any_of}
+use Rattle.gtfs_schema.specs.FieldValues.{if_there, if_both}
+use Rattle.gtfs_schema.specs.RowConditions.{is_file, value_in, word_in, amount_in, Rule, Condition, reported_at, any_of}
 use Rattle.gtfs_schema.specs.KeyRules.{key_twice}
 use Rattle.gtfs_schema.specs.Calendars.{service_rows, first_service_row, service_in, days_named}
 

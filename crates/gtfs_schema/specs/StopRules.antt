@@ -6,8 +6,8 @@ use Prim.Native.String.{String as Literal}
 use Rattle.gtfs_table.specs.Tables.{Dataset}
 use Rattle.gtfs_table.specs.declared.file.File.{File}
 use Rattle.gtfs_table.specs.declared.file.File.TheVariants as file
-use Rattle.gtfs_schema.specs.Values.{if_there, is_one_of}
-use Rattle.gtfs_schema.specs.Rows.{word_in, choice_in, row_with, Rule, Condition, reported_at, any_of}
+use Rattle.gtfs_schema.specs.FieldValues.{if_there, is_one_of}
+use Rattle.gtfs_schema.specs.RowConditions.{word_in, choice_in, row_with, Rule, Condition, reported_at, any_of}
 
 -- the location type of the stop that a column names: that of the first row with its id
 abbrev pub type_named : Dataset → File → ℕ → Literal → Option ℤ

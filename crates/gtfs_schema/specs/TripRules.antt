@@ -7,9 +7,9 @@ use Rattle.std.specs.Option.{option_or}
 use Prim.Native.String.{String as Literal}
 use Rattle.gtfs_table.specs.Tables.{Dataset}
 use Rattle.gtfs_table.specs.declared.file.File.TheVariants as file
-use Rattle.gtfs_schema.specs.Values.{if_there, if_both, is_word}
+use Rattle.gtfs_schema.specs.FieldValues.{if_there, if_both, is_word}
 use Rattle.gtfs_table.specs.Rows.{rows}
-use Rattle.gtfs_schema.specs.Rows.{is_readable_in, is_empty_in, word_in, amount_in, Rule, Condition, reported_at, any_of}
+use Rattle.gtfs_schema.specs.RowConditions.{is_readable_in, is_empty_in, word_in, amount_in, Rule, Condition, reported_at, any_of}
 
 -- ---- the stop times of a trip, by their sequence
 

@@ -1,15 +1,15 @@
 -- What only the steps of a check need.
-pub mod Cells
+pub mod CellFaults
 pub mod ColumnView
 pub mod FeedIds
 pub mod FieldCodes
-pub mod Found
+pub mod FoundProblems
 pub mod IdRows
+pub mod IdSlots
 pub mod Ids
-pub mod Picks
+pub mod KeptColumns
 pub mod ProblemOrder
 pub mod ReferencePicks
 pub mod SitePicks
-pub mod Slots
 pub mod StopTypes
 pub mod UnknownIds

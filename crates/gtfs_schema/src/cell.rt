@@ -1,11 +1,11 @@
 ghost use Rattle.std.specs.Prelude.{◌≡◌};
 ghost use Rattle.gtfs_table.specs.Blanks.{is_control};
 ghost use Rattle.gtfs_field.specs.Kinds.{count_of, is_in_ranges};
-ghost use Rattle.gtfs_schema.specs.steps.Cells.{cell_code, code_of, fault_code};
+ghost use Rattle.gtfs_schema.specs.steps.CellFaults.{cell_code, code_of, fault_code};
 ghost use Rattle.gtfs_schema.specs.ColumnRules.{is_required};
 ghost use Rattle.gtfs_schema.specs.steps.FieldCodes.{length_code};
 ghost use Rattle.gtfs_schema.specs.steps.ColumnView.{column_of, kind_of};
-ghost use Rattle.gtfs_schema.specs.Values.{has_control, one_of};
+ghost use Rattle.gtfs_schema.specs.FieldValues.{has_control, one_of};
 
 use crate::code::Code;
 use crate::columns::{Column, Empty, Kind};

@@ -4,8 +4,8 @@ ghost use Rattle.std.specs.Ordering.{eq_by_cmp, on};
 ghost use Rattle.std.specs.Prelude.{Some, refl};
 ghost use Rattle.gtfs_schema.specs.steps.ProblemOrder.{name_equal, name_total};
 ghost use Rattle.gtfs_schema.specs.Problems.{name_bytes, name_cmp, name_rank};
-ghost use Rattle.gtfs_schema.specs.Rows.{file_rank};
-ghost use Rattle.gtfs_schema.specs.View.{name_of};
+ghost use Rattle.gtfs_schema.specs.RowConditions.{file_rank};
+ghost use Rattle.gtfs_schema.specs.ProblemTexts.{name_of};
 
 use gtfs_table::File;
 use std::cmp::Ordering;

@@ -1,8 +1,8 @@
 ghost use Rattle.std.specs.Prelude.{◌≡◌, ◌&&◌, [], map, IfOk, OnOk};
 ghost use Rattle.std.specs.List.Sorted.{IsStrictlySortedBy};
-ghost use Rattle.gtfs_schema.specs.steps.Found.{is_same, Adds, SameProblems};
+ghost use Rattle.gtfs_schema.specs.steps.FoundProblems.{is_same, Adds, SameProblems};
 ghost use Rattle.gtfs_schema.specs.Problems.{problem_cmp};
-ghost use Rattle.gtfs_schema.specs.View.{problem_of};
+ghost use Rattle.gtfs_schema.specs.ProblemTexts.{problem_of};
 
 use crate::problem::Problem;
 use gtfs_field::OutOfMemory;
@@ -18,7 +18,7 @@ pub struct Found<'a> {
 impl<'a> Model for Found<'a> {
     ghost use Rattle.std.specs.Prelude.{List, map};
     ghost use Rattle.gtfs_schema.specs.Problems.{Problem};
-    ghost use Rattle.gtfs_schema.specs.View.{problem_of};
+    ghost use Rattle.gtfs_schema.specs.ProblemTexts.{problem_of};
 
     ghost Value = { List Problem };
 

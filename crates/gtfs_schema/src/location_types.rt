@@ -2,9 +2,9 @@ ghost use Rattle.std.specs.Prelude.{◌≡◌, codes, IfOk};
 ghost use Rattle.gtfs_table.specs.Rows.{records_in};
 ghost use Rattle.gtfs_table.specs.Tables.{column_of};
 ghost use Rattle.gtfs_table.specs.declared.file.File.TheVariants as file;
-ghost use Rattle.gtfs_schema.specs.Rows.{choice_in};
+ghost use Rattle.gtfs_schema.specs.RowConditions.{choice_in};
 ghost use Rattle.gtfs_schema.specs.steps.StopTypes.{type_in_text, type_of, AreStopTypes};
-ghost use Rattle.gtfs_schema.specs.Values.{is_one_of};
+ghost use Rattle.gtfs_schema.specs.FieldValues.{is_one_of};
 
 use crate::values;
 use gtfs_field::OutOfMemory;

@@ -1,6 +1,6 @@
 ghost use Rattle.std.specs.Prelude.{◌≡◌, ◌++◌, ◌≤◌, ◌+◌, if◌then◌else◌, length, string_bytes, string_len};
 ghost use Rattle.std.specs.String.{string_capacity};
-ghost use Rattle.gtfs_schema.specs.Values.{plain};
+ghost use Rattle.gtfs_schema.specs.FieldValues.{plain};
 ghost use Rattle.gtfs_table.specs.Blanks.{is_control};
 
 /// Appends a text with a space in place of each control character.

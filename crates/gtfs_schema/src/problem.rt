@@ -3,7 +3,7 @@ ghost use Rattle.std.specs.Ordering.{eq_by_cmp, on};
 ghost use Rattle.std.specs.Prelude.{Some, refl};
 ghost use Rattle.gtfs_schema.specs.steps.ProblemOrder.{problem_equal, problem_total};
 ghost use Rattle.gtfs_schema.specs.Problems.{problem_cmp};
-ghost use Rattle.gtfs_schema.specs.View.{problem_of};
+ghost use Rattle.gtfs_schema.specs.ProblemTexts.{problem_of};
 
 use crate::code::Code;
 use crate::file_name::FileName;

@@ -1,7 +1,7 @@
 ghost use Rattle.std.specs.Prelude.{◌≡◌, ◌<◌, length, IfOk, IfSome};
 ghost use Rattle.std.specs.List.{All};
 ghost use Rattle.gtfs_schema.specs.steps.Ids.{Answers, AnswersRow, FirstRows};
-ghost use Rattle.gtfs_schema.specs.steps.Slots.{IsFoundIn, IsSlotOf};
+ghost use Rattle.gtfs_schema.specs.steps.IdSlots.{IsFoundIn, IsSlotOf};
 
 use crate::equal::are_equal;
 use crate::finder::FoundId;

@@ -8,9 +8,9 @@
 
 ghost use Rattle.std.specs.Prelude.{◌≡◌, option_map, pos};
 ghost use Rattle.gtfs_schema.specs.Columns as kind;
-ghost use Rattle.gtfs_schema.specs.Reads.{amount_of, choice_of, is_id, seconds_of, word_of};
+ghost use Rattle.gtfs_schema.specs.ReadFields.{amount_of, choice_of, is_id, seconds_of, word_of};
 ghost use Rattle.gtfs_schema.specs.ReadRules.{FailsIfEmpty};
-ghost use Rattle.gtfs_schema.specs.Values.{meaning};
+ghost use Rattle.gtfs_schema.specs.FieldValues.{meaning};
 
 use crate::cell::{has_control, read_choice};
 use gtfs_field::{

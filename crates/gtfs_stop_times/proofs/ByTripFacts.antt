@@ -7,13 +7,13 @@ use Rattle.std.proofs.lemmas.Option.{get_or_from_slice_get, slice_get_within}
 use Rattle.std.proofs.lemmas.List.{ext_get_or, get_or-drop, get_or-map, take_more, get_or-take, length-drop, length-map, length-take-le, map_push}
 use Rattle.std.proofs.lemmas.List.FromFn.{get_or-range_with_len, length-range_with_len}
 use Rattle.csv.specs.Records.{Rising}
-use Rattle.gtfs_stop_times.specs.ByTrip.{AreWithin, in_turn, rows_in}
+use Rattle.gtfs_stop_times.specs.StopTimesByTrip.{AreWithin, in_turn, rows_in}
 use Rattle.gtfs_stop_times.specs.declared.by_trip.RowRange.{RowRange}
 use Rattle.gtfs_stop_times.specs.declared.stop_row.StopRow.{StopRow}
 use Rattle.gtfs_stop_times.proofs.Turns.{parts-joined, parts-map, starts-parts}
 use Rattle.gtfs_field.proofs.ListFacts.{range-push}
-use Rattle.gtfs_table.specs.Parts.{parts, starts_of}
-use Rattle.gtfs_stop_times.specs.Headsigned.{numbers_in, rows_at}
+use Rattle.gtfs_table.specs.FieldOffsets.{parts, starts_of}
+use Rattle.gtfs_stop_times.specs.HeadsignedRows.{numbers_in, rows_at}
 use Rattle.gtfs_stop_times.specs.KeptLists.{no_row}
 
 -- ---- rows that follow each other

@@ -6,11 +6,11 @@ use Rattle.std.proofs.lemmas.Bool.{cases_lt, eqb-false}
 use Rattle.std.proofs.lemmas.List.{drop_more, get_or-drop, get_or-set_other, get_or-set_same, get_or-take, get_or_default, length-drop, length-map, length-set, length-take-le, map_more, nil_from_length, take_all}
 use Rattle.std.proofs.lemmas.Map.Keys.{apart_from_distinct}
 use Rattle.csv.specs.Records.{Rising}
-use Rattle.gtfs_stop_times.specs.ByTrip.{AreWithin, in_turn, rows_in}
+use Rattle.gtfs_stop_times.specs.StopTimesByTrip.{AreWithin, in_turn, rows_in}
 use Rattle.gtfs_stop_times.specs.declared.by_trip.RowRange.{RowRange}
 use Rattle.gtfs_stop_times.specs.declared.stop_row.StopRow.{StopRow}
-use Rattle.gtfs_table.specs.Parts.{parts}
-use Rattle.gtfs_stop_times.specs.Headsigned.{AreGiven, Headsigned, headsigned_at, numbers_in, rows_at, with_headsign, with_headsign_at}
+use Rattle.gtfs_table.specs.FieldOffsets.{parts}
+use Rattle.gtfs_stop_times.specs.HeadsignedRows.{AreGiven, Headsigned, headsigned_at, numbers_in, rows_at, with_headsign, with_headsign_at}
 use Rattle.gtfs_stop_times.specs.KeptLists.{no_note, no_row, noted_row, stop_time_at, stop_times_at}
 use Rattle.gtfs_stop_times.specs.declared.row_note.RowNote.{RowNote}
 use Rattle.gtfs_stop_times.proofs.ByTripFacts.{ranges-rows, ranges-starts}

@@ -3,8 +3,8 @@ use Rattle.std.proofs.Common.{◌≡◌, ◌∙◌, ◌∷◌, ◌++◌, [], ℕ
 use Rattle.std.specs.Prelude.{◌||◌}
 use Rattle.std.specs.List.{list_any}
 use Rattle.std.proofs.lemmas.Simd.{map-map}
-use Rattle.gtfs_table.specs.Parts.{parts}
-use Rattle.gtfs_stop_times.specs.ByTrip.{StopTimesOfTrips, at_places, items_in, rows_in}
+use Rattle.gtfs_table.specs.FieldOffsets.{parts}
+use Rattle.gtfs_stop_times.specs.StopTimesByTrip.{StopTimesOfTrips, at_places, items_in, rows_in}
 use Rattle.gtfs_stop_times.specs.declared.by_trip.Places.TheVariants as places
 use Rattle.gtfs_stop_times.specs.declared.by_trip.Places.{Places}
 use Rattle.gtfs_stop_times.specs.declared.by_trip.RowRange.{RowRange}

@@ -3,8 +3,8 @@ use Rattle.std.proofs.Common.{◌≡◌, ◌<◌, ◌∙◌, ◌++◌, ℕ, List
 use Rattle.std.specs.Prelude.{option_map, slice_get}
 use Rattle.std.proofs.lemmas.List.{length-map}
 use Rattle.std.proofs.lemmas.Option.{slice_get-get_or, slice_get-map}
-use Rattle.gtfs_table.specs.Parts.{parts}
-use Rattle.gtfs_stop_times.specs.ByTrip.{StopTimesOfTrips, at_places, in_turn, rows_in}
+use Rattle.gtfs_table.specs.FieldOffsets.{parts}
+use Rattle.gtfs_stop_times.specs.StopTimesByTrip.{StopTimesOfTrips, at_places, in_turn, rows_in}
 use Rattle.gtfs_stop_times.specs.declared.by_trip.Places.TheVariants as places
 use Rattle.gtfs_stop_times.specs.declared.by_trip.Places.{Places}
 use Rattle.gtfs_stop_times.specs.declared.by_trip.RowRange.{RowRange}

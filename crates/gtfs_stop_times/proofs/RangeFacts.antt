@@ -6,8 +6,8 @@ use Rattle.std.proofs.lemmas.List.{drop-append-le, drop-map, length-drop, length
 use Rattle.std.proofs.lemmas.List.Concat.{flat_map-append}
 use Rattle.std.proofs.lemmas.List.Elements.{All-push}
 use Rattle.std.proofs.lemmas.Simd.{map-map}
-use Rattle.gtfs_table.specs.Parts.{starts_of}
-use Rattle.gtfs_stop_times.specs.ByTrip.{AreCounted, AreUnbroken, AreWithin, in_turn, items_in, rows_in}
+use Rattle.gtfs_table.specs.FieldOffsets.{starts_of}
+use Rattle.gtfs_stop_times.specs.StopTimesByTrip.{AreCounted, AreUnbroken, AreWithin, in_turn, items_in, rows_in}
 use Rattle.gtfs_stop_times.specs.declared.by_trip.RowRange.{RowRange}
 use Rattle.gtfs_stop_times.specs.declared.stop_row.StopRow.{StopRow}
 

@@ -5,8 +5,8 @@ use Rattle.std.proofs.Math.Seq.{drop-append_seam}
 use Rattle.std.proofs.lemmas.List.{map_push, take-append-drop, take_all}
 use Rattle.std.proofs.lemmas.List.Elements.{All-push}
 use Rattle.std.proofs.lemmas.Simd.{map-map}
-use Rattle.gtfs_table.specs.Parts.{parts}
-use Rattle.gtfs_stop_times.specs.ByTrip.{AreWithin, StopTimesOfTrips, at_places, items_in, rows_in}
+use Rattle.gtfs_table.specs.FieldOffsets.{parts}
+use Rattle.gtfs_stop_times.specs.StopTimesByTrip.{AreWithin, StopTimesOfTrips, at_places, items_in, rows_in}
 use Rattle.gtfs_stop_times.specs.StopLists.{LiesIn, stops_in}
 use Rattle.gtfs_stop_times.specs.declared.by_trip.Places.TheVariants as places
 use Rattle.gtfs_stop_times.specs.declared.by_trip.Places.{Places}

@@ -5,7 +5,7 @@ use Rattle.std.proofs.Math.Seq.{drop-append_seam, drop-length, take-append_seam}
 use Rattle.std.proofs.lemmas.List.{drop-drop, drop-map, length-drop, length-map, length-take-le, take-append-drop, take-map, take_all}
 use Rattle.csv.specs.Records.{Rising}
 use Rattle.csv.proofs.RecordFacts.{rising-first}
-use Rattle.gtfs_table.specs.Parts.{parts, starts_of}
+use Rattle.gtfs_table.specs.FieldOffsets.{parts, starts_of}
 
 pub length-starts : {X : Type 0} (s : ℕ) (ls : List (List X)) → length (starts_of s ls) ≡ length ls
 unfolding starts_of

@@ -1,8 +1,8 @@
 -- Stop times as they are kept: the rows of the file by their numbers, what is noted of each, and the numbers of those that are stop times.
 use Rattle.std.specs.Prelude.{◌≡◌, ◌<◌, ◌⊎◌, ℕ, List, length, map, slice_index_or, None}
 use Rattle.std.specs.List.{All}
-use Rattle.gtfs_stop_times.specs.declared.choices.DropOffType.TheVariants as drop_off
-use Rattle.gtfs_stop_times.specs.declared.choices.PickupType.TheVariants as pickup
+use Rattle.gtfs_stop_times.specs.declared.stop_time_choices.DropOffType.TheVariants as drop_off
+use Rattle.gtfs_stop_times.specs.declared.stop_time_choices.PickupType.TheVariants as pickup
 use Rattle.gtfs_stop_times.specs.declared.stop_row.StopRow.{StopRow}
 use Rattle.gtfs_stop_times.specs.declared.row_note.RowNote.{RowNote}
 use Rattle.gtfs_stop_times.specs.declared.stop_time.StopTime.{StopTime}

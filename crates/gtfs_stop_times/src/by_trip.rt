@@ -1,10 +1,10 @@
 ghost use Rattle.std.specs.Prelude.{◌≡◌, ◌<◌, ◌≤◌, ◌++◌, IfOk, Some, length, map, slice_get};
 ghost use Rattle.std.specs.List.{list_any};
 ghost use Rattle.csv.specs.Records.{Rising};
-ghost use Rattle.gtfs_stop_times.specs.ByTrip.{AreWithin, in_turn, is_at, rows_in};
-ghost use Rattle.gtfs_stop_times.specs.Renumbered.{renumbered_row};
+ghost use Rattle.gtfs_stop_times.specs.StopTimesByTrip.{AreWithin, in_turn, is_at, rows_in};
+ghost use Rattle.gtfs_stop_times.specs.RenumberedRows.{renumbered_row};
 ghost use Rattle.gtfs_stop_times.specs.StopLists.{stops_in};
-ghost use Rattle.gtfs_table.specs.Parts.{parts};
+ghost use Rattle.gtfs_table.specs.FieldOffsets.{parts};
 
 use crate::marks::{marked, marked_in_ranges, marked_in_turn};
 use crate::optional::OptionalHeadsign;
@@ -49,7 +49,7 @@ pub(crate) enum Places {
 }
 
 impl Model for StopTimesByTrip {
-    ghost use Rattle.gtfs_stop_times.specs.ByTrip.{AreSoundPlaces, StopTimesOfTrips, at_places};
+    ghost use Rattle.gtfs_stop_times.specs.StopTimesByTrip.{AreSoundPlaces, StopTimesOfTrips, at_places};
 
     ghost Value = { StopTimesOfTrips };
 
@@ -112,8 +112,8 @@ impl StopTimesByTrip {
     /// Of each trip, by its number, whether it has a stop time at one of these stops: those at whose
     /// number there is `true`. The starts rise, from 0 on, and none lies past the last stop time.
     ///
-    /// It goes through the stop times as they stand in memory, which takes less time than from trip
-    /// to trip.
+    /// It goes through the stop times in the order in which they stand in memory, which takes less
+    /// time than from trip to trip.
     ///
     /// # Errors
     /// `OutOfMemory` where memory is refused.
@@ -134,10 +134,11 @@ impl StopTimesByTrip {
         }
     }
 
-    /// The stops of the stop times of each trip, by the numbers of trips. The starts rise, from 0
+    /// For each trip, by its number, the stops of its stop times in order. The starts rise, from 0
     /// on, and none lies past the last stop time.
     ///
-    /// Like [`StopTimesByTrip::trips_at`] it goes through the stop times as they stand in memory.
+    /// Like [`StopTimesByTrip::trips_at`], it goes through the stop times in the order in which they
+    /// stand in memory.
     ///
     /// # Errors
     /// `OutOfMemory` where memory is refused, and where the number of a stop is above

@@ -1,7 +1,7 @@
 ghost use Rattle.std.specs.Prelude.{◌≡◌, ◌++◌, ◌+◌, ◌<◌, [], drop, length, map, nat_eq, slice_get, slice_index_or, slice_set, take, IfOk, None, Some};
 ghost use Rattle.std.specs.List.{IsDistinct};
 ghost use Rattle.csv.specs.Records.{Rising};
-ghost use Rattle.gtfs_stop_times.specs.Headsigned.{with_headsign, with_headsign_at};
+ghost use Rattle.gtfs_stop_times.specs.HeadsignedRows.{with_headsign, with_headsign_at};
 ghost use Rattle.gtfs_stop_times.specs.KeptLists.{no_row, stop_times_at, AreListed};
 
 use crate::by_trip::StopTimesByTrip;
@@ -31,7 +31,7 @@ pub struct HeadsignedStopTimes {
 }
 
 impl Model for HeadsignedStopTimes {
-    ghost use Rattle.gtfs_stop_times.specs.Headsigned.{headsigned_at, AreGiven, Headsigned};
+    ghost use Rattle.gtfs_stop_times.specs.HeadsignedRows.{headsigned_at, AreGiven, Headsigned};
 
     ghost Value = { Headsigned };
 

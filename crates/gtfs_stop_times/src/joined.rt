@@ -1,9 +1,9 @@
 ghost use Rattle.std.specs.Prelude.{◌≡◌, ◌<◌, ◌≤◌, ◌++◌, IfOk, length, map};
 ghost use Rattle.std.specs.List.{All};
 ghost use Rattle.csv.specs.Records.{Rising};
-ghost use Rattle.gtfs_stop_times.specs.ByTrip.{AreCounted, AreWithin, in_turn, rows_in};
-ghost use Rattle.gtfs_stop_times.specs.Joined.{IsTripOf, list_of, trip_rows};
-ghost use Rattle.gtfs_table.specs.Parts.{parts};
+ghost use Rattle.gtfs_stop_times.specs.StopTimesByTrip.{AreCounted, AreWithin, in_turn, rows_in};
+ghost use Rattle.gtfs_stop_times.specs.JoinedStopTimes.{IsTripOf, list_of, trip_rows};
+ghost use Rattle.gtfs_table.specs.FieldOffsets.{parts};
 
 use crate::by_trip::{Places, RowRange, StopTimesByTrip};
 use crate::ranges::ranges_in_turn;

@@ -16,17 +16,17 @@
 //!   stops of trips alone. A [`TripOf`] is a trip of one of two feeds, whose stop times are joined.
 //! - [`room_for`] tells for how many items a list of millions asks.
 //!
-//! The numbers of choices are in `specs/Choices.antt`; a value that may be missing, and its four
-//! bytes, in `specs/Optional.antt`; when a stop time is reached and left in `specs/KeptTimes.antt`,
-//! the order of stop times in `specs/StopTimeOrder.antt`, how they are kept in
-//! `specs/KeptLists.antt`, and what they are given in `specs/Headsigned.antt`; the stop times of
-//! all trips, as they are seen and where they stand, in `specs/ByTrip.antt`, their stops in
-//! `specs/StopLists.antt`, those of two feeds in `specs/Joined.antt`, and what other numbers make of
-//! a stop time in `specs/Renumbered.antt`.
+//! The numbers of choices are in `specs/StopTimeChoices.antt`; a value that may be missing, and its four
+//! bytes, in `specs/OptionalNumbers.antt`; when a stop time is reached and left in `specs/RowTimes.antt`,
+//! which times are kept in `specs/KeptTimes.antt`, the order of stop times in
+//! `specs/StopTimeOrder.antt`, how they are kept in
+//! `specs/KeptLists.antt`, and what they are given in `specs/HeadsignedRows.antt`; the stop times of
+//! all trips, as they are seen and where they stand, in `specs/StopTimesByTrip.antt`, their stops in
+//! `specs/StopLists.antt`, those of two feeds in `specs/JoinedStopTimes.antt`, and what other numbers make of
+//! a stop time in `specs/RenumberedRows.antt`.
 #![tactic(auto)]
 
 mod by_trip;
-mod choices;
 mod headsigned;
 mod joined;
 mod kept;
@@ -43,11 +43,11 @@ mod row_numbers;
 mod stop_lists;
 mod stop_row;
 mod stop_time;
+mod stop_time_choices;
 mod stretches;
 mod together;
 
 pub use by_trip::{RowRange, StopTimesByTrip};
-pub use choices::{DropOffType, PickupType, Timepoint};
 pub use headsigned::HeadsignedStopTimes;
 pub use joined::TripOf;
 pub use kept::KeptStopTimes;
@@ -57,4 +57,5 @@ pub use room::room_for;
 pub use stop_lists::StopLists;
 pub use stop_row::StopRow;
 pub use stop_time::{ReadTimes, StopTime};
+pub use stop_time_choices::{DropOffType, PickupType, Timepoint};
 pub use stretches::stretch;

@@ -1,8 +1,8 @@
 ghost use Rattle.std.specs.Prelude.{◌≡◌, ◌≤◌, ◌++◌, IfOk, OnOk, length, map};
 ghost use Rattle.std.specs.List.{list_any};
 ghost use Rattle.csv.specs.Records.{Rising};
-ghost use Rattle.gtfs_stop_times.specs.ByTrip.{AreWithin, is_at, items_in};
-ghost use Rattle.gtfs_table.specs.Parts.{parts};
+ghost use Rattle.gtfs_stop_times.specs.StopTimesByTrip.{AreWithin, is_at, items_in};
+ghost use Rattle.gtfs_table.specs.FieldOffsets.{parts};
 
 use crate::by_trip::RowRange;
 use crate::stop_row::StopRow;

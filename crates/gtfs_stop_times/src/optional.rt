@@ -15,7 +15,7 @@ pub struct OptionalClock {
 
 impl Model for OptionalClock {
     ghost use Rattle.std.specs.Prelude.{ℕ, Option, unwrap_or, ◌≡◌};
-    ghost use Rattle.gtfs_stop_times.specs.Optional.{IsSeconds, number_if_any, same_number};
+    ghost use Rattle.gtfs_stop_times.specs.OptionalNumbers.{IsSeconds, number_if_any, same_number};
 
     ghost Value = { Option ℕ };
 
@@ -63,7 +63,7 @@ pub struct OptionalHeadsign {
 
 impl Model for OptionalHeadsign {
     ghost use Rattle.std.specs.Prelude.{ℕ, Option, unwrap_or, ◌≤◌};
-    ghost use Rattle.gtfs_stop_times.specs.Optional.{number_if_any, same_number};
+    ghost use Rattle.gtfs_stop_times.specs.OptionalNumbers.{number_if_any, same_number};
 
     ghost Value = { Option ℕ };
 

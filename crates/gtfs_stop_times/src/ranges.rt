@@ -1,9 +1,9 @@
 ghost use Rattle.std.specs.Prelude.{◌≡◌, ◌+◌, ◌-◌, ◌<◌, ◌≤◌, ℕ, drop, IfOk, IfSome, length, map, slice_index_or, take};
 ghost use Rattle.std.specs.List.{All};
 ghost use Rattle.csv.specs.Records.{Rising};
-ghost use Rattle.gtfs_stop_times.specs.ByTrip.{AreWithin, rows_in};
-ghost use Rattle.gtfs_table.specs.Parts.{parts};
-ghost use Rattle.gtfs_stop_times.specs.Headsigned.{numbers_in, rows_at};
+ghost use Rattle.gtfs_stop_times.specs.StopTimesByTrip.{AreWithin, rows_in};
+ghost use Rattle.gtfs_table.specs.FieldOffsets.{parts};
+ghost use Rattle.gtfs_stop_times.specs.HeadsignedRows.{numbers_in, rows_at};
 
 use crate::by_trip::RowRange;
 use crate::room::room_for;
@@ -63,8 +63,7 @@ fn range(order: &RowNumbers, start: usize, end: usize) -> Option<RowRange>
     })
 }
 
-// Where each trip stands in rows of which those of one trip follow those of another, from its start
-// to the next one.
+// The range of each trip in rows that stand trip after trip: from its start to the next start.
 pub(crate) fn ranges_in_turn(
     alloc: Global,
     rows: &[StopRow],

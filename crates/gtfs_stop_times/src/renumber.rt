@@ -1,5 +1,5 @@
 ghost use Rattle.std.specs.Prelude.{◌≡◌, None, map, option_and_then, slice_index_or};
-ghost use Rattle.gtfs_stop_times.specs.Renumbered.{renumbered_row};
+ghost use Rattle.gtfs_stop_times.specs.RenumberedRows.{renumbered_row};
 
 use crate::numbers::StopNo;
 use crate::optional::OptionalHeadsign;

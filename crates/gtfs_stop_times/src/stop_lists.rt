@@ -1,5 +1,5 @@
 ghost use Rattle.std.specs.Prelude.{◌≡◌, ◌<◌, ◌≤◌, ◌++◌, ◌∷◌, [], All, IfOk, OnOk, Some, length, map, slice_get};
-ghost use Rattle.gtfs_stop_times.specs.ByTrip.{AreWithin, items_in};
+ghost use Rattle.gtfs_stop_times.specs.StopTimesByTrip.{AreWithin, items_in};
 ghost use Rattle.gtfs_stop_times.specs.StopLists.{LiesIn, stops_in};
 
 use crate::by_trip::RowRange;
@@ -11,8 +11,8 @@ use std::marker::Model;
 
 /// The numbers of the stops of trips, a list for each trip.
 ///
-/// All lists lie in one: a vector for each trip takes long to make and to let go. A number takes
-/// four bytes.
+/// All lists lie in one vector: a vector for each trip would take long to make and to free. A
+/// number takes four bytes.
 #[derive(Drop)]
 pub struct StopLists {
     stops: Vec<u32>,
@@ -22,7 +22,7 @@ pub struct StopLists {
 
 impl Model for StopLists {
     ghost use Rattle.std.specs.Prelude.{ℕ, List, length, map};
-    ghost use Rattle.gtfs_stop_times.specs.ByTrip.{AreWithin, items_in};
+    ghost use Rattle.gtfs_stop_times.specs.StopTimesByTrip.{AreWithin, items_in};
 
     ghost Value = { List (List ℕ) };
 
@@ -32,7 +32,7 @@ impl Model for StopLists {
 }
 
 impl StopLists {
-    /// No list yet, and room for this many with this many stops in all.
+    /// No lists yet, with room for this many lists and this many stops in all.
     ///
     /// # Errors
     /// `OutOfMemory` where memory is refused.
@@ -85,7 +85,7 @@ impl StopLists {
     }
 }
 
-// The stops of these rows, and then of those counted behind them.
+// The stops of these rows, and then those of `more`, which are counted after them.
 pub(crate) fn stops_of(
     alloc: Global,
     rows: &[StopRow],

@@ -1,9 +1,9 @@
 ghost use Rattle.std.specs.Prelude.{◌≡◌, is_some};
 ghost use Rattle.gtfs_stop_times.specs.RowTimes.{left_at, reached_at};
 
-use crate::choices::{DropOffType, PickupType, Timepoint};
 use crate::numbers::StopNo;
 use crate::optional::{OptionalClock, OptionalHeadsign};
+use crate::stop_time_choices::{DropOffType, PickupType, Timepoint};
 use gtfs_field::Clock;
 
 /// A row of `stop_times.txt`, without its trip (GTFS Schedule Reference, `stop_times.txt`).
@@ -24,7 +24,7 @@ pub struct StopRow {
 }
 
 impl StopRow {
-    /// When a vehicle comes: the arrival time, or where that is missing the departure time.
+    /// When a vehicle arrives: the arrival time or, if it is missing, the departure time.
     #[inline(always)]
     pub fn arrives(&self) -> Option<Clock>
         ensures { result ≡ reached_at self.now }
@@ -32,7 +32,7 @@ impl StopRow {
         self.arrival_time.get().or(self.departure_time.get())
     }
 
-    /// When a vehicle leaves: the departure time, or where that is missing the arrival time.
+    /// When a vehicle departs: the departure time or, if it is missing, the arrival time.
     #[inline(always)]
     pub fn departs(&self) -> Option<Clock>
         ensures { result ≡ left_at self.now }

@@ -1,6 +1,6 @@
 ghost use Rattle.std.specs.Prelude.{◌≡◌, ◌<◌, ◌+◌, Some, length, slice_get, slice_index_or};
 ghost use Rattle.csv.specs.Records.{Rising};
-ghost use Rattle.gtfs_table.specs.Parts.{parts};
+ghost use Rattle.gtfs_table.specs.FieldOffsets.{parts};
 
 /// The rows of one trip in a list of the rows of all trips, trip after trip: from the start of this
 /// number to the next start, or to the end. The starts rise, from 0 on, and none lies past the end

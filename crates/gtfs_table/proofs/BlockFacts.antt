@@ -1,8 +1,8 @@
 -- Offsets in blocks, by their number.
 use Rattle.std.proofs.Common.{◌≡◌, ◌≢◌, ◌<◌, ◌≤◌, ◌+◌, ◌-◌, ◌*◌, ◌/◌, ◌%◌, ◌∷◌, ◌++◌, ◌∙◌, [], ℕ, zero, suc, List, length, take, get_or, refl, sym, ap, arith, length-append}
 use Rattle.std.proofs.lemmas.List.{get_or_append_left, get_or-take, get_or_push, get_or_read, length_push}
-use Rattle.gtfs_table.specs.Blocks.{offsets_from}
-use Rattle.gtfs_table.specs.Parts.{starts_of}
+use Rattle.gtfs_table.specs.OffsetBlocks.{offsets_from}
+use Rattle.gtfs_table.specs.FieldOffsets.{starts_of}
 
 length-offsets_from : (n : ℕ) (bases ds : List ℕ) → length (offsets_from n bases ds) ≡ length ds
 unfolding offsets_from

@@ -3,10 +3,10 @@ use Rattle.std.proofs.Common.{◌≡◌, ◌<◌, ◌+◌, ◌∷◌, ◌++◌, 
 use Rattle.std.specs.Prelude.{Result, Ok, Err, IfErr, IsErrAnd}
 use Rattle.std.proofs.lemmas.List.{length-take}
 use Rattle.gtfs_devices.specs.Device.{Calls, MakesCalls}
-use Rattle.gtfs_table.specs.Ending.{EndsAtFile}
-use Rattle.gtfs_table.specs.Files.{file_name}
+use Rattle.gtfs_table.specs.ReadingEnds.{EndsAtFile}
+use Rattle.gtfs_table.specs.FileNames.{file_name}
 use Rattle.gtfs_devices.specs.Folder.{Store, RefusesRead}
-use Rattle.gtfs_table.specs.Reading.{AllHoldWithin, kept_files}
+use Rattle.gtfs_table.specs.TablesRead.{AllHoldWithin, kept_files}
 use Rattle.gtfs_table.specs.declared.file.File.{File}
 use Rattle.gtfs_devices.specs.declared.folders.FolderFault.{FolderFault}
 use Rattle.gtfs_table.proofs.FolderFacts.{calls-more}

@@ -4,7 +4,7 @@ use Rattle.std.specs.List.{concat}
 use Rattle.std.proofs.lemmas.List.{append-nil, take_more, take_all, drop-drop, length-take-le}
 use Rattle.csv.specs.Records.{AllText, Rising, cut_from, field_at, last_end}
 use Rattle.csv.proofs.RecordFacts.{field-get, rising-last, text-more}
-use Rattle.gtfs_table.specs.Parts.{parts, starts_of}
+use Rattle.gtfs_table.specs.FieldOffsets.{parts, starts_of}
 use Rattle.gtfs_table.proofs.PartFacts.{parts-push}
 use Rattle.gtfs_table.proofs.StoreFacts.{rising-push}
 

@@ -5,9 +5,9 @@ use Rattle.std.specs.FinMap as finmap
 use Rattle.std.proofs.lemmas.List.{take_more}
 use Rattle.std.proofs.lemmas.List.Elements.{All-push}
 use Rattle.gtfs_devices.specs.Device.{counted, counted_times, calls_after, Calls, MakesCalls, MakesSomeCalls, Rises}
-use Rattle.gtfs_table.specs.Files.{file_name}
+use Rattle.gtfs_table.specs.FileNames.{file_name}
 use Rattle.gtfs_devices.specs.Folder.{file_in, Files, Store, Finds, Lists, RefusesRead}
-use Rattle.gtfs_table.specs.Reading.{AllHoldWithin, HoldsTable, HoldsDataset, HoldsWithin, RefusesDataset, SetsTables, dataset_of, is_kept, kept_files, table_in, tables_set}
+use Rattle.gtfs_table.specs.TablesRead.{AllHoldWithin, HoldsTable, HoldsDataset, HoldsWithin, RefusesDataset, SetsTables, dataset_of, is_kept, kept_files, table_in, tables_set}
 use Rattle.gtfs_table.specs.Tables.{Dataset, Table, absent, empty_dataset, table_of_bytes, with_table}
 use Rattle.gtfs_table.specs.declared.file.File.{File}
 use Rattle.gtfs_devices.specs.declared.folders.FolderFault.{FolderFault}

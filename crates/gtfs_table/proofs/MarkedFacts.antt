@@ -7,8 +7,8 @@ use Rattle.std.proofs.lemmas.Grind.{get_or_default_zero}
 use Rattle.std.proofs.lemmas.List.{get_or_append_left, get_or-append_right, get_or-take, get_or-drop, length-drop, length-take-le, take-append-drop, take_all}
 use Rattle.csv.specs.Records.{AllText, IsRecord, Rising, Row, cut_from, field_at, fields_of}
 use Rattle.csv.proofs.RecordFacts.{text-at}
-use Rattle.gtfs_table.specs.Parts.{between, marks_of}
-use Rattle.gtfs_table.specs.Storage.{IsRun, fields_in, marks_in, run_of}
+use Rattle.gtfs_table.specs.FieldOffsets.{between, marks_of}
+use Rattle.gtfs_table.specs.StoredRecords.{IsRun, fields_in, marks_in, run_of}
 use Rattle.gtfs_table.proofs.FieldFacts.{at-end, concat-fields, concat-more, concat-take, one-more}
 use Rattle.gtfs_table.proofs.PartFacts.{part-bounds}
 

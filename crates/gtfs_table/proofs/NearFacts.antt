@@ -5,8 +5,8 @@ use Rattle.std.proofs.lemmas.List.{get_or-take, get_or-drop, get_or_read, drop-d
 use Rattle.std.proofs.lemmas.Grind.{get_or_default_zero}
 use Rattle.csv.specs.Records.{AllText, Rising}
 use Rattle.csv.proofs.RecordFacts.{text-at}
-use Rattle.gtfs_table.specs.Blocks.{offsets_from}
-use Rattle.gtfs_table.specs.Parts.{parts, TellsOffsets, TellsFields}
+use Rattle.gtfs_table.specs.OffsetBlocks.{offsets_from}
+use Rattle.gtfs_table.specs.FieldOffsets.{parts, TellsOffsets, TellsFields}
 use Rattle.gtfs_table.proofs.BlockFacts.{offset-at, count-offsets}
 use Rattle.gtfs_table.proofs.PartFacts.{bounds-of, count-parts, part-of}
 

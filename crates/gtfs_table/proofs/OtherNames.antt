@@ -7,7 +7,7 @@ use Rattle.std.proofs.lemmas.List.Kept.{IsSortedBy-filter}
 use Rattle.std.proofs.lemmas.List.Sorted.{ranks_by}
 use Rattle.gtfs_devices.specs.Folder.{IsByBytes}
 use Rattle.gtfs_field.proofs.TextOrderFacts.{texts_total}
-use Rattle.gtfs_table.specs.Reading.{AreOthers, is_kept, other_names}
+use Rattle.gtfs_table.specs.TablesRead.{AreOthers, is_kept, other_names}
 
 -- some of the names are in order as all are
 pub filter-by_bytes : (p : List ℕ → Bool) (names : List (List ℕ)) → IsByBytes names → IsByBytes (filter p names)

@@ -8,7 +8,7 @@ use Rattle.std.specs.List.{All, list_all, slice_get}
 use Rattle.csv.specs.Records.{Rising}
 use Rattle.csv.proofs.RecordFacts.{rising-first}
 use Rattle.gtfs_field.proofs.ListFacts.{all_dropped, all_taken}
-use Rattle.gtfs_table.specs.Parts.{parts, add_to_last}
+use Rattle.gtfs_table.specs.FieldOffsets.{parts, add_to_last}
 
 pub length-parts : {X : Type 0} (starts : List ℕ) (xs : List X) → length (parts starts xs) ≡ length starts
 unfolding parts

@@ -9,7 +9,7 @@ use Rattle.csv.specs.Reading.{default_config, records, records_from, records_nex
 use Rattle.csv.specs.declared.parser.State.{State}
 use Rattle.csv.specs.declared.parser.State.TheVariants as st
 use Rattle.csv.specs.declared.parser.Action.{Action}
-use Rattle.gtfs_table.specs.Pieces.{feeds_last, ends_within}
+use Rattle.gtfs_table.specs.FilePieces.{feeds_last, ends_within}
 use Rattle.gtfs_table.specs.Tables.{record_at}
 use Rattle.gtfs_table.proofs.AllRecords.{last, shorter}
 

@@ -7,8 +7,8 @@ use Rattle.std.proofs.lemmas.Str.{IsUtf8-append, IsUtf8-drop, IsUtf8-encode, enc
 use Rattle.std.specs.Str.{IsUtf8, is_utf8}
 use Rattle.csv.specs.Reading.{default_config, is_bom, records, records_from}
 use Rattle.csv.specs.Machine.{next_record}
-use Rattle.gtfs_table.specs.Pieces.{ends_within}
-use Rattle.gtfs_table.specs.Progress.{HasTaken, Progress, nothing_read, table_after, with_text}
+use Rattle.gtfs_table.specs.FilePieces.{ends_within}
+use Rattle.gtfs_table.specs.ReadingProgress.{HasTaken, Progress, nothing_read, table_after, with_text}
 use Rattle.gtfs_table.specs.Tables.{Records, Table, not_utf8, of_records, table_of_bytes, without_marks}
 use Rattle.gtfs_table.proofs.PieceFacts.{records-split}
 

@@ -4,8 +4,8 @@ use Rattle.std.specs.List.{All}
 use Rattle.std.proofs.lemmas.List.{get_or-map, length-map, map-append, take-map}
 use Rattle.std.proofs.lemmas.List.Elements.{All-get_or, All-map, All-push, All-take, All-weaker}
 use Rattle.csv.specs.Records.{AllText, IsRecord, Row, fields_of}
-use Rattle.gtfs_table.specs.Parts.{add_to_last}
-use Rattle.gtfs_table.specs.Storage.{IsRun, fields_in, run_of}
+use Rattle.gtfs_table.specs.FieldOffsets.{add_to_last}
+use Rattle.gtfs_table.specs.StoredRecords.{IsRun, fields_in, run_of}
 use Rattle.gtfs_table.proofs.MarkedFacts.{run-fields, run-whole}
 
 -- runs of records that are seen as this list

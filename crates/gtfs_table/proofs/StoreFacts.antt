@@ -7,7 +7,7 @@ use Rattle.std.specs.Str.{IsUtf8}
 use Rattle.std.proofs.lemmas.List.Elements.{All-push}
 use Rattle.csv.specs.Records.{AllText, Rising}
 use Rattle.csv.proofs.RecordFacts.{rising-more, rising-end, text-more}
-use Rattle.gtfs_table.specs.Parts.{parts, add_to_last}
+use Rattle.gtfs_table.specs.FieldOffsets.{parts, add_to_last}
 use Rattle.gtfs_table.proofs.PartFacts.{parts-push, parts-more, filled-more}
 
 -- the offsets, and what they cut, after a push of a part

@@ -16,11 +16,11 @@ use Rattle.csv.specs.Writing.{default_writer, with_flexible, escaped, field_text
 use Rattle.csv.specs.declared.parser.State.TheVariants as st
 use Rattle.csv.proofs.RoundTrip.{read-write}
 use Rattle.gtfs_table.specs.Tables.{Records, of_records, table_of_bytes, without_marks}
-use Rattle.gtfs_table.specs.Written.{text_of_records, begins_with_mark, is_marked}
+use Rattle.gtfs_table.specs.TableTexts.{text_of_records, begins_with_mark, is_marked}
 use Rattle.gtfs_table.proofs.AllRecords.{records-AreRecords}
 use Rattle.gtfs_table.proofs.StoreFacts.{AllFilled}
 use Rattle.gtfs_table.proofs.Utf8Fields.{encode-high}
-use Rattle.gtfs_table.specs.Parts.{parts}
+use Rattle.gtfs_table.specs.FieldOffsets.{parts}
 
 -- ---- a writer that lets records differ in length writes the same
 

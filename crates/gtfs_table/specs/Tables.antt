@@ -5,7 +5,7 @@ use Rattle.std.specs.Prelude.{ℕ, ◌-◌, ◌==◌, if◌then◌else◌, List,
 use Rattle.std.specs.Str.{is_utf8}
 use Rattle.csv.specs.Reading.{default_config, is_bom, records}
 use Rattle.gtfs_table.specs.Blanks.{cut}
-use Rattle.gtfs_table.specs.Parts.{add_to_last}
+use Rattle.gtfs_table.specs.FieldOffsets.{add_to_last}
 use Rattle.gtfs_table.specs.declared.file.File.{File}
 use Rattle.gtfs_table.specs.declared.file.File.TheVariants as file
 use Rattle.gtfs_table.specs.declared.state.State.{State}

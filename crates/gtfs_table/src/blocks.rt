@@ -1,7 +1,7 @@
 ghost use Rattle.std.specs.Prelude.{◌≡◌, ◌<◌, ◌≤◌, ◌+◌, ◌-◌, ◌*◌, ◌%◌, ◌^◌, ◌++◌, ◌∷◌, [], length, take, is_some, IfOk, IfSome, OnErr, slice_index, vec_len, vec_capacity, if◌then◌else◌};
 ghost use Rattle.std.specs.List.{concat};
 ghost use Rattle.csv.specs.Records.{IsRecord, fields_of};
-ghost use Rattle.gtfs_table.specs.Parts.{starts_of, TellsOffsets};
+ghost use Rattle.gtfs_table.specs.FieldOffsets.{starts_of, TellsOffsets};
 
 use csv::ByteRecord;
 use gtfs_field::OutOfMemory;
@@ -29,7 +29,7 @@ impl Model for Blocks {
 
     ghost Value = { List ℕ };
 
-    ghost use Rattle.gtfs_table.specs.Blocks.{offsets_in, HasBases};
+    ghost use Rattle.gtfs_table.specs.OffsetBlocks.{offsets_in, HasBases};
 
     ghost view = { offsets_in };
 

@@ -1,5 +1,5 @@
 ghost use Rattle.std.specs.Prelude.{◌≡◌};
-ghost use Rattle.gtfs_table.specs.Files.{file_name};
+ghost use Rattle.gtfs_table.specs.FileNames.{file_name};
 
 /// One of the nine files of a GTFS Schedule dataset that are read and kept (GTFS
 /// Schedule Reference, "Dataset Files").

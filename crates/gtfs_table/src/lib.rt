@@ -37,10 +37,11 @@
 
 mod blanks;
 mod blocks;
+mod csv_reading;
+mod csv_writing;
 mod file;
 mod long_records;
 mod offsets;
-mod reader;
 mod record;
 mod records;
 mod rows;
@@ -51,7 +52,6 @@ mod table;
 mod table_reader;
 mod tables;
 mod texts;
-mod writer;
 
 pub use blanks::plain_character;
 pub use file::File;

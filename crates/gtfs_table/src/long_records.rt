@@ -1,6 +1,6 @@
 ghost use Rattle.std.specs.Prelude.{All, ◌≡◌, ◌<◌, ◌^◌, ◌++◌, ◌∷◌, [], length, take, OnOk, OnErr, slice_index_or};
 ghost use Rattle.csv.specs.Records.{AllText, IsRecord, fields_of};
-ghost use Rattle.gtfs_table.specs.Parts.{add_to_last};
+ghost use Rattle.gtfs_table.specs.FieldOffsets.{add_to_last};
 
 use crate::offsets::Offsets;
 use crate::record::Record;
@@ -25,7 +25,7 @@ impl Model for LongRecords {
 
     ghost Value = { List (List (List ℕ)) };
 
-    ghost use Rattle.gtfs_table.specs.Storage.{records_stored, IsRecordStore};
+    ghost use Rattle.gtfs_table.specs.StoredRecords.{records_stored, IsRecordStore};
 
     ghost view = { records_stored };
 

@@ -1,7 +1,7 @@
 ghost use Rattle.std.specs.Prelude.{◌≡◌, ◌<◌, ◌≤◌, ◌+◌, ◌-◌, ◌^◌, ◌++◌, ◌∷◌, [], length, take, IfOk, OnOk, OnErr, slice_index, slice_index_or};
 ghost use Rattle.std.specs.List.{concat};
 ghost use Rattle.csv.specs.Records.{IsRecord, fields_of};
-ghost use Rattle.gtfs_table.specs.Parts.{starts_of, TellsOffsets};
+ghost use Rattle.gtfs_table.specs.FieldOffsets.{starts_of, TellsOffsets};
 
 use crate::blocks::Blocks;
 use csv::ByteRecord;

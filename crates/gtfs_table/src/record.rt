@@ -2,7 +2,7 @@ ghost use Rattle.std.specs.Prelude.{◌≡◌, ◌==◌, ◌≤◌, ◌-◌, tru
 ghost use Rattle.std.specs.List.{list_any};
 ghost use Rattle.gtfs_table.specs.Blanks.{cut};
 ghost use Rattle.gtfs_table.specs.Rows.{is_empty};
-ghost use Rattle.gtfs_table.specs.Storage.{IsRun, fields_in};
+ghost use Rattle.gtfs_table.specs.StoredRecords.{IsRun, fields_in};
 ghost use Rattle.gtfs_table.specs.Tables.{field_cut, field_under};
 
 use crate::blanks;
@@ -32,7 +32,7 @@ impl<'a> Model for Record<'a> {
 
     ghost Value = { List (List ℕ) };
 
-    ghost use Rattle.gtfs_table.specs.Storage.{record_in, IsRecordWithin};
+    ghost use Rattle.gtfs_table.specs.StoredRecords.{record_in, IsRecordWithin};
 
     ghost view = { record_in };
 

@@ -1,12 +1,12 @@
 ghost use Rattle.std.specs.Prelude.{All, ◌≡◌, ◌<◌, ◌+◌, ◌++◌, ◌∷◌, [], length, take, IfOk, OnOk, OnErr};
 ghost use Rattle.csv.specs.Records.{AllText, IsRecord, fields_of};
-ghost use Rattle.gtfs_table.specs.Parts.{add_to_last};
+ghost use Rattle.gtfs_table.specs.FieldOffsets.{add_to_last};
 ghost use Rattle.gtfs_table.specs.Tables.{record_at};
 
+use crate::csv_writing::copy_record;
 use crate::long_records::LongRecords;
 use crate::record::Record;
 use crate::short_records::ShortRecords;
-use crate::writer::copy_record;
 use csv::ByteRecord;
 use gtfs_field::OutOfMemory;
 use std::alloc::Global;

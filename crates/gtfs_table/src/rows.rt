@@ -24,7 +24,7 @@ impl<'a> Model for Rows<'a> {
 
     ghost view = { λ r. rows_past r.records.now r.passed };
 
-    ghost use Rattle.gtfs_table.specs.Storage.{AreRowsWithin};
+    ghost use Rattle.gtfs_table.specs.StoredRecords.{AreRowsWithin};
 
     ghost invariant = { AreRowsWithin };
 }

@@ -1,7 +1,7 @@
 ghost use Rattle.std.specs.Prelude.{◌≡◌, ◌<◌, ◌≤◌, ◌+◌, ◌-◌, ◌^◌, ◌++◌, ◌∷◌, [], length, take, IfOk, OnOk, OnErr, slice_index_or, vec_len, vec_capacity};
 ghost use Rattle.csv.specs.Records.{IsRecord, fields_of};
-ghost use Rattle.gtfs_table.specs.Parts.{marks_of};
-ghost use Rattle.gtfs_table.specs.Storage.{run_of};
+ghost use Rattle.gtfs_table.specs.FieldOffsets.{marks_of};
+ghost use Rattle.gtfs_table.specs.StoredRecords.{run_of};
 
 use crate::offsets::Offsets;
 use csv::ByteRecord;
@@ -22,7 +22,7 @@ impl Model for Runs {
 
     ghost Value = { List (List ℕ) };
 
-    ghost use Rattle.gtfs_table.specs.Storage.{runs_of, IsRunStore};
+    ghost use Rattle.gtfs_table.specs.StoredRecords.{runs_of, IsRunStore};
 
     ghost view = { runs_of };
 

@@ -1,6 +1,6 @@
 ghost use Rattle.std.specs.Prelude.{All, ◌≡◌, ◌<◌, ◌-◌, ◌^◌, ◌++◌, ◌∷◌, [], length, take, IfOk, OnErr, if◌then◌else◌, slice_index_or};
 ghost use Rattle.csv.specs.Records.{AllText, IsRecord, fields_of};
-ghost use Rattle.gtfs_table.specs.Storage.{IsRun, fields_in};
+ghost use Rattle.gtfs_table.specs.StoredRecords.{IsRun, fields_in};
 
 use crate::runs::Runs;
 use csv::ByteRecord;
@@ -27,7 +27,7 @@ impl Model for ShortRecords {
 
     ghost Value = { List (List (List ℕ)) };
 
-    ghost use Rattle.gtfs_table.specs.Storage.{short_stored, IsShortStore};
+    ghost use Rattle.gtfs_table.specs.StoredRecords.{short_stored, IsShortStore};
 
     ghost view = { short_stored };
 

@@ -1,13 +1,13 @@
 ghost use Rattle.std.specs.Prelude.{◌≡◌, ◌<◌, [], length, option_map, IfOk, OnOk, OnErr};
 ghost use Rattle.gtfs_table.specs.Rows.{rows_past};
 ghost use Rattle.gtfs_table.specs.Tables.{absent, column_of, field_cut, record_at, table_records, table_state, with_field, with_record};
-ghost use Rattle.gtfs_table.specs.Written.{text_of_table, ReadsBack};
+ghost use Rattle.gtfs_table.specs.TableTexts.{text_of_table, ReadsBack};
 
+use crate::csv_writing::write_records;
 use crate::record::Record;
 use crate::records::Records;
 use crate::rows::Rows;
 use crate::state::State;
-use crate::writer;
 use gtfs_field::OutOfMemory;
 use std::alloc::Global;
 use std::marker::Model;
@@ -23,7 +23,7 @@ impl Model for FileTable {
 
     ghost Value = { Table };
 
-    ghost use Rattle.gtfs_table.specs.Storage.{table_stored, IsTableStore};
+    ghost use Rattle.gtfs_table.specs.StoredRecords.{table_stored, IsTableStore};
 
     ghost view = { table_stored };
 
@@ -129,7 +129,7 @@ impl FileTable {
         match self.state {
             State::Absent => Ok(None),
             State::NotUtf8 => Ok(Some(Vec::new(alloc))),
-            State::Read => Ok(Some(writer::write_records(alloc, &self.records)?)),
+            State::Read => Ok(Some(write_records(alloc, &self.records)?)),
         }
     }
 }

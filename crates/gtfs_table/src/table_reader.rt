@@ -1,8 +1,8 @@
 ghost use Rattle.std.specs.Prelude.{◌≡◌, ◌<◌, ◌≤◌, ◌-◌, ◌++◌, [], drop, length, slice_index, List, ℕ, IfOk, OnOk};
-ghost use Rattle.gtfs_table.specs.Pieces.{ends_within, feeds_last};
-ghost use Rattle.gtfs_table.specs.Progress.{nothing_read, table_after};
+ghost use Rattle.gtfs_table.specs.FilePieces.{ends_within, feeds_last};
+ghost use Rattle.gtfs_table.specs.ReadingProgress.{nothing_read, table_after};
 
-use crate::reader::{cut_marks, read_all};
+use crate::csv_reading::{cut_marks, read_all};
 use crate::record::Record;
 use crate::records::Records;
 use crate::state::State;
@@ -29,7 +29,7 @@ pub(crate) struct TableReader {
 }
 
 impl Model for TableReader {
-    ghost use Rattle.gtfs_table.specs.Progress.{Progress};
+    ghost use Rattle.gtfs_table.specs.ReadingProgress.{Progress};
 
     ghost Value = { Progress };
 
@@ -135,7 +135,7 @@ impl TableReader {
 }
 
 impl FileReader for TableReader {
-    ghost use Rattle.gtfs_table.specs.Progress.{HasTaken};
+    ghost use Rattle.gtfs_table.specs.ReadingProgress.{HasTaken};
 
     ghost has_taken = { HasTaken };
 

@@ -1,14 +1,14 @@
 ghost use Rattle.std.specs.Prelude.{All, ◌≡◌, ◌≢◌, ◌<◌, ◌≤◌, [], false, is_some, length, map, option_map, IfOk, IfErr, IfSome, IsErrOf, OnOk, OnErr};
 ghost use Rattle.std.specs.Borrow.{sem};
 ghost use Rattle.gtfs_devices.specs.Device.{FailsAtLast, MakesCalls, MakesSomeCalls};
-ghost use Rattle.gtfs_table.specs.Ending.{EndsAtFile, EndsReading};
-ghost use Rattle.gtfs_table.specs.Files.{file_name};
-ghost use Rattle.gtfs_table.specs.Lent.{LendsTable};
+ghost use Rattle.gtfs_table.specs.ReadingEnds.{EndsAtFile, EndsReading};
+ghost use Rattle.gtfs_table.specs.FileNames.{file_name};
+ghost use Rattle.gtfs_table.specs.LentTables.{LendsTable};
 ghost use Rattle.gtfs_devices.specs.Folder.{CountsFault, IsByBytes, RefusesRead};
-ghost use Rattle.gtfs_table.specs.Reading.{is_kept, kept_files, AllHoldWithin, AreOthers, other_names as names_kept_out, HoldsDataset, HoldsTable, HoldsWithin, RefusesDataset, SetsTables};
+ghost use Rattle.gtfs_table.specs.TablesRead.{is_kept, kept_files, AllHoldWithin, AreOthers, other_names as names_kept_out, HoldsDataset, HoldsTable, HoldsWithin, RefusesDataset, SetsTables};
 ghost use Rattle.gtfs_table.specs.Rows.{is_row as row_of, numbered, records_in, rows as row_numbers};
 ghost use Rattle.gtfs_table.specs.Tables.{column_of, empty_dataset, field_cut, record_at, table_of, table_state, value, with_field, with_record, with_table};
-ghost use Rattle.gtfs_table.specs.Written.{text_of_table, ReadsBack};
+ghost use Rattle.gtfs_table.specs.TableTexts.{text_of_table, ReadsBack};
 
 use crate::file::File;
 use crate::record::Record;
@@ -59,7 +59,7 @@ impl Model for Tables {
       others = t.others.items;
     } };
 
-    ghost use Rattle.gtfs_table.specs.Reading.{AreOthers};
+    ghost use Rattle.gtfs_table.specs.TablesRead.{AreOthers};
 
     ghost invariant = { λ t. AreOthers t.others.items };
 }

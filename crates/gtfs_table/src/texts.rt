@@ -1,7 +1,7 @@
 ghost use Rattle.std.specs.Prelude.{◌≡◌, ◌<◌, ◌≤◌, ◌-◌, ◌++◌, ◌∷◌, [], length, take, drop, OnOk, OnErr, slice_index_or};
 ghost use Rattle.std.specs.List.{concat};
 ghost use Rattle.csv.specs.Records.{AllText, IsRecord, fields_of};
-ghost use Rattle.gtfs_table.specs.Parts.{starts_of, TellsFields};
+ghost use Rattle.gtfs_table.specs.FieldOffsets.{starts_of, TellsFields};
 
 use crate::offsets::Offsets;
 use csv::ByteRecord;
@@ -21,7 +21,7 @@ impl Model for Texts {
 
     ghost Value = { List (List ℕ) };
 
-    ghost use Rattle.gtfs_table.specs.Storage.{texts_of, IsTextStore};
+    ghost use Rattle.gtfs_table.specs.StoredRecords.{texts_of, IsTextStore};
 
     ghost view = { texts_of };
 

@@ -20,10 +20,10 @@ use Rattle.gtfs_rows.specs.RowCells.{cells_in, frequency_cells, held_by, value_o
 use Rattle.gtfs_rows.specs.Rows.{StopRow, Transfer, Trip}
 use Rattle.gtfs_field.proofs.ListFacts.{any_mapped}
 use Rattle.gtfs_rows.specs.NamedRows.{stop_row_named}
-use Rattle.gtfs_rows.specs.Sound.{IsSound, has_ends, has_id, if_given, is_sound_transfer, is_stop_of}
+use Rattle.gtfs_rows.specs.SoundContent.{IsSound, has_ends, has_id, if_given, is_sound_transfer, is_stop_of}
 use Rattle.gtfs_rows.specs.Trips.{stop_rows_by_trip}
 use Rattle.gtfs_stop_times.specs.RowTimes.{left_at}
-use Rattle.gtfs_rows.specs.Views.{IsSoundParts, content_of_parts, stop_time_names_rows}
+use Rattle.gtfs_rows.specs.RowsInMemory.{IsSoundParts, content_of_parts, stop_time_names_rows}
 use Rattle.gtfs_rows.specs.declared.parts.Parts.{Parts}
 use Rattle.gtfs_stop_times.specs.declared.stop_row.StopRow.{StopRow as StopTime}
 use Rattle.gtfs_times.specs.Filling.{filled_rows, reached, time_at, timed, timed_trip}

@@ -15,13 +15,13 @@ use Rattle.gtfs_rows.proofs.RowTexts.{all_at}
 use Rattle.gtfs_rows.proofs.SameElements.{pairs-map}
 use Rattle.gtfs_rows.proofs.TripFacts.{stop_times}
 use Rattle.gtfs_rows.specs.Content.{Content}
-use Rattle.gtfs_rows.specs.Order.{Ascends}
+use Rattle.gtfs_rows.specs.TransferOrder.{Ascends}
 use Rattle.gtfs_rows.specs.Rows.{StopRow, Trip}
 use Rattle.gtfs_rows.specs.Runs.{is_timed}
-use Rattle.gtfs_rows.specs.Sound.{IsInOrder, has_id, is_sound_in, is_sound_period, is_sound_stop_row, is_sound_trip}
+use Rattle.gtfs_rows.specs.SoundContent.{IsInOrder, has_id, is_sound_in, is_sound_period, is_sound_stop_row, is_sound_trip}
 use Rattle.gtfs_rows.specs.Trips.{AreStopTimes, frequencies_by_trip, stop_rows_by_trip}
 use Rattle.gtfs_stop_times.specs.RowTimes.{left_at}
-use Rattle.gtfs_rows.specs.Views.{IsSoundParts, content_of_parts, stop_row_of, trip_of, trips_of}
+use Rattle.gtfs_rows.specs.RowsInMemory.{IsSoundParts, content_of_parts, stop_row_of, trip_of, trips_of}
 use Rattle.gtfs_rows.specs.declared.frequency.Frequency.{Frequency as PeriodRow}
 use Rattle.gtfs_rows.specs.declared.parts.Parts.{Parts}
 use Rattle.gtfs_stop_times.specs.declared.stop_row.StopRow.{StopRow as StopTime}

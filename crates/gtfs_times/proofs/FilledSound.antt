@@ -9,16 +9,16 @@ use Rattle.std.proofs.lemmas.List.{get_or-map, length-map}
 use Rattle.gtfs_field.proofs.OrderingFacts.{nat-less}
 use Rattle.gtfs_table.specs.declared.file.File.TheVariants as file
 use Rattle.gtfs_schema.specs.Columns.{columns_of}
-use Rattle.gtfs_schema.specs.Values.{if_both}
+use Rattle.gtfs_schema.specs.FieldValues.{if_both}
 use Rattle.std.proofs.lemmas.List.FromFn.{length-enumerate_from}
 use Rattle.gtfs_rows.proofs.RowTexts.{all_at}
 use Rattle.gtfs_rows.specs.Cells.{are_cells, is_between}
 use Rattle.gtfs_rows.specs.Content.{Content}
-use Rattle.gtfs_rows.specs.Order.{Ascends}
+use Rattle.gtfs_rows.specs.TransferOrder.{Ascends}
 use Rattle.gtfs_rows.specs.RowCells.{stop_time_cells}
 use Rattle.gtfs_rows.specs.Rows.{StopRow}
 use Rattle.gtfs_rows.specs.Runs.{is_timed}
-use Rattle.gtfs_rows.specs.Sound.{comes, leaves, is_end, is_sound_in, is_sound_stop_row, is_stop_of, keeps_time}
+use Rattle.gtfs_rows.specs.SoundContent.{comes, leaves, is_end, is_sound_in, is_sound_stop_row, is_stop_of, keeps_time}
 use Rattle.gtfs_times.specs.Filling.{filled_row, filled_rows, reached, timed}
 use Rattle.gtfs_times.specs.declared.times.Times.TheVariants as times
 use Rattle.gtfs_times.proofs.FilledOrder.{KeepTime, around-time, fill, filled-at, stays, time-kept}

@@ -5,7 +5,7 @@ use Rattle.std.proofs.lemmas.List.{drop-map, take-map, map-append, reverse-appen
 use Rattle.gtfs_rows.proofs.KeyedRows.{find_map}
 use Rattle.gtfs_rows.specs.Rows.{StopRow}
 use Rattle.gtfs_rows.specs.Runs.{is_timed}
-use Rattle.gtfs_rows.specs.Sound.{comes, leaves}
+use Rattle.gtfs_rows.specs.SoundContent.{comes, leaves}
 use Rattle.gtfs_times.specs.Filling.{Placed, timed_before, timed_after, time_between, time_at}
 
 -- ---- lists

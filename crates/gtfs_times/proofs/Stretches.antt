@@ -5,7 +5,7 @@ use Rattle.std.proofs.Math.Seq.{drop-append_seam}
 use Rattle.std.proofs.lemmas.List.{take-append-le, take_all, length-take, length-drop}
 use Rattle.csv.specs.Records.{Rising}
 use Rattle.csv.proofs.RecordFacts.{rising-first}
-use Rattle.gtfs_table.specs.Parts.{parts}
+use Rattle.gtfs_table.specs.FieldOffsets.{parts}
 
 -- the next start, or the end
 next-in : (e : ℕ) (starts : List ℕ) (size : ℕ) → Rising e starts size → (e ≤ get_or starts 0 size) × (get_or starts 0 size ≤ size)

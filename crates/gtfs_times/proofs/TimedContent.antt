@@ -4,12 +4,12 @@ use Rattle.std.specs.Prelude.{is_some, if◌then◌else◌}
 use Rattle.std.specs.List.{enumerate_from}
 use Rattle.std.proofs.lemmas.List.{length-map}
 use Rattle.std.proofs.lemmas.Simd.{map-map}
-use Rattle.gtfs_table.specs.Parts.{parts}
+use Rattle.gtfs_table.specs.FieldOffsets.{parts}
 use Rattle.std.proofs.lemmas.List.FromFn.{length-enumerate_from}
 use Rattle.gtfs_rows.specs.NamedRows.{stop_row_named}
 use Rattle.gtfs_rows.specs.Trips.{stop_rows_by_trip}
 use Rattle.gtfs_stop_times.specs.RowTimes.{left_at}
-use Rattle.gtfs_rows.specs.Views.{IsSoundParts, content_of_parts, stop_row_of, trip_of, trips_of}
+use Rattle.gtfs_rows.specs.RowsInMemory.{IsSoundParts, content_of_parts, stop_row_of, trip_of, trips_of}
 use Rattle.gtfs_rows.specs.declared.frequency.Frequency.{Frequency}
 use Rattle.gtfs_rows.specs.declared.parts.Parts.{Parts}
 use Rattle.gtfs_stop_times.specs.declared.stop_row.StopRow.{StopRow}

@@ -2,7 +2,7 @@
 use Rattle.std.proofs.Common.{◌≡◌, ◌∷◌, [], codes, refl, ℕ, List, Option, Some, None, map}
 use Rattle.gtfs_rows.specs.Rows.{StopRow}
 use Rattle.gtfs_times.specs.Filling.{filled_rows, timed_stop_rows}
-use Rattle.gtfs_rows.specs.Sound.{comes, leaves}
+use Rattle.gtfs_rows.specs.SoundContent.{comes, leaves}
 use Rattle.gtfs_times.specs.declared.times.Times.TheVariants as times
 
 abbrev row : List ℕ → Option ℕ → Option ℕ → ℕ → StopRow

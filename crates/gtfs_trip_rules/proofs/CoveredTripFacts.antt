@@ -9,12 +9,12 @@ use Rattle.std.specs.Borrow.{Bor}
 use Rattle.std.proofs.lemmas.Bool.{cases_Bool, eq-eqb, eqb-true}
 use Rattle.std.proofs.lemmas.Map.Text.{btree_map_updates_str}
 use Rattle.std.proofs.Math.Bool.{or-false}
-use Rattle.gtfs_schema.specs.Values.{if_there}
+use Rattle.gtfs_schema.specs.FieldValues.{if_there}
 use Rattle.gtfs_schema.proofs.BoolFacts.{no_test}
 use Rattle.gtfs_schema.proofs.NamedFacts.{text_turned}
 use Rattle.gtfs_schema.proofs.SiteFacts.{text_is, text_itself}
 use Rattle.gtfs_trip_rules.specs.CoveredTrips.{AreDistinct, AreOfTrips, IsNumbered, Numbers, covers_trip, number_of}
-use Rattle.gtfs_trip_rules.specs.SpanView.{Spans, covers, shares}
+use Rattle.gtfs_trip_rules.specs.PeriodSpans.{Spans, covers, shares}
 
 -- ---- numbers of trips
 

@@ -15,7 +15,7 @@ use Rattle.gtfs_field.proofs.NumberFacts.{int_eq_flips as flips}
 use Rattle.gtfs_days.specs.Service.{NamesEachDayOnce}
 use Rattle.gtfs_days.specs.declared.exception.Exception.{Exception}
 use Rattle.gtfs_schema.specs.KeyRules.{all_there}
-use Rattle.gtfs_trip_rules.specs.ServiceView.{each_day_once, exceptions_of_rows}
+use Rattle.gtfs_trip_rules.specs.ServiceCalendars.{each_day_once, exceptions_of_rows}
 use Rattle.gtfs_schema.proofs.BoolFacts.{and_parts, no_test}
 
 -- ---- one more row

@@ -16,7 +16,7 @@ use Rattle.gtfs_days.specs.declared.exception.Exception.{Exception}
 use Rattle.gtfs_days.specs.declared.week.Week.{Week}
 use Rattle.gtfs_days.proofs.ActiveDays.{before_service}
 use Rattle.gtfs_schema.specs.Calendars.{days_named, days_of_week}
-use Rattle.gtfs_trip_rules.specs.ServiceView.{is_never_active}
+use Rattle.gtfs_trip_rules.specs.ServiceCalendars.{is_never_active}
 use Rattle.gtfs_schema.proofs.BoolFacts.{and_parts, or_left, or_right}
 
 -- ---- days of a calendar row

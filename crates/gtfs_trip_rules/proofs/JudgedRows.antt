@@ -10,13 +10,13 @@ use Rattle.std.proofs.lemmas.List.Elements.{All-drop, All-take}
 use Rattle.std.proofs.lemmas.List.Sorted.{All-permutation, IsPermutation-reverse}
 use Rattle.gtfs_table.specs.Tables.{Dataset}
 use Rattle.gtfs_schema.specs.Problems.{Problem}
-use Rattle.gtfs_schema.specs.steps.Found.{Reports}
+use Rattle.gtfs_schema.specs.steps.FoundProblems.{Reports}
 use Rattle.gtfs_field.proofs.NumberFacts.{number_itself}
 use Rattle.gtfs_schema.proofs.BoolFacts.{and_parts, same_test}
 use Rattle.gtfs_schema.proofs.SiteFacts.{text_is, text_itself}
 use Rattle.gtfs_stop_times.specs.KeptTimes.{departs, is_untimed}
 use Rattle.gtfs_trip_rules.specs.StopTimePicks.{breaks_order}
-use Rattle.gtfs_trip_rules.specs.TripJudged.{each_after, ends_trip, goes_on, is_end_untimed, is_late, last_of, left_of, repeats_last, AddsOfRow}
+use Rattle.gtfs_trip_rules.specs.JudgedTrips.{each_after, ends_trip, goes_on, is_end_untimed, is_late, last_of, left_of, repeats_last, AddsOfRow}
 use Rattle.gtfs_trip_rules.specs.TripNumbers.{AllNumbered, IsNumbered}
 use Rattle.gtfs_trip_rules.specs.TripOrder.{ends, follows, is_left_later, left_before, repeats, rows_before, same_trip, InOrder}
 use Rattle.gtfs_trip_rules.specs.TripStopTimes.{TripStopTime, trip_stop_time}

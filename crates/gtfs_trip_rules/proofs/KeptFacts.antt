@@ -8,21 +8,21 @@ use Rattle.gtfs_table.specs.declared.file.File.TheVariants as file
 use Rattle.gtfs_schema.specs.Columns.{count, id, up_to}
 use Rattle.gtfs_schema.specs.IdNumbers.{number_of_id}
 use Rattle.gtfs_schema.specs.ReadRules.{IsReadAs}
-use Rattle.gtfs_schema.specs.Reads.{amount_of, choice_of, word_of}
-use Rattle.gtfs_schema.specs.Values.{Value, amount, as_amount, as_word}
+use Rattle.gtfs_schema.specs.ReadFields.{amount_of, choice_of, word_of}
+use Rattle.gtfs_schema.specs.FieldValues.{Value, amount, as_amount, as_word}
 use Rattle.gtfs_trip_rules.specs.declared.stop_times.columns.ReadStopTime.{ReadStopTime}
 use Rattle.gtfs_trip_rules.specs.declared.stop_times.named.NamedIds.{NamedIds}
 use Rattle.gtfs_trip_rules.specs.declared.stop_times.reading.Reading.{Reading}
 use Rattle.gtfs_trip_rules.specs.declared.stop_times.reading.Reading.TheVariants as reading
-use Rattle.gtfs_stop_times.specs.declared.choices.Timepoint.{Timepoint}
-use Rattle.gtfs_stop_times.specs.declared.choices.DropOffType.TheVariants as drop_off
-use Rattle.gtfs_stop_times.specs.declared.choices.PickupType.TheVariants as pickup
+use Rattle.gtfs_stop_times.specs.declared.stop_time_choices.Timepoint.{Timepoint}
+use Rattle.gtfs_stop_times.specs.declared.stop_time_choices.DropOffType.TheVariants as drop_off
+use Rattle.gtfs_stop_times.specs.declared.stop_time_choices.PickupType.TheVariants as pickup
 use Rattle.gtfs_stop_times.specs.declared.stop_time.ReadTimes.{ReadTimes}
-use Rattle.gtfs_trip_rules.specs.Kept.{Keeps, KeepsRow, named_stop_number}
-use Rattle.gtfs_stop_times.specs.Choices.{drop_off_code, pickup_code, timepoint_code}
+use Rattle.gtfs_trip_rules.specs.KeptRows.{Keeps, KeepsRow, named_stop_number}
+use Rattle.gtfs_stop_times.specs.StopTimeChoices.{drop_off_code, pickup_code, timepoint_code}
 use Rattle.gtfs_trip_rules.specs.KeptRow.{kept_row, times_of}
 use Rattle.gtfs_stop_times.specs.KeptTimes.{with_trip, are_clear, is_placed}
-use Rattle.gtfs_trip_rules.specs.Readings.{is_blank, is_fault, text_of, value_in}
+use Rattle.gtfs_trip_rules.specs.StopTimeFields.{is_blank, is_fault, text_of, value_in}
 use Rattle.gtfs_trip_rules.specs.StopTimes.{stop_time_text, AreNumbersOf, IsReading, IsStopTime}
 use Rattle.gtfs_trip_rules.specs.TripNotes.{trip_note}
 use Rattle.gtfs_trip_rules.specs.TripStopTimes.{TripStopTime}

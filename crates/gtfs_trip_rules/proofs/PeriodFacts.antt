@@ -13,12 +13,12 @@ use Rattle.gtfs_table.specs.Tables.{Dataset}
 use Rattle.gtfs_table.specs.declared.file.File.TheVariants as file
 use Rattle.gtfs_schema.specs.Columns.{id, time}
 use Rattle.gtfs_schema.specs.PeriodRules.{overlaps_earlier, share_second}
-use Rattle.gtfs_trip_rules.specs.PeriodView.{Period, meets_one, met_among, period_in}
-use Rattle.gtfs_schema.specs.Reads.{seconds_of, word_of}
+use Rattle.gtfs_trip_rules.specs.FrequencyPeriods.{Period, meets_one, met_among, period_in}
+use Rattle.gtfs_schema.specs.ReadFields.{seconds_of, word_of}
 use Rattle.gtfs_table.specs.Rows.{Row, is_row, numbers, records_in, rows, is_empty}
 use Rattle.gtfs_table.proofs.RowFacts.{numbers_more, IsTurn}
-use Rattle.gtfs_schema.specs.Rows.{text_in, word_in}
-use Rattle.gtfs_schema.specs.Values.{as_amount, if_both, if_there, is_word, readable}
+use Rattle.gtfs_schema.specs.RowConditions.{text_in, word_in}
+use Rattle.gtfs_schema.specs.FieldValues.{as_amount, if_both, if_there, is_word, readable}
 use Rattle.gtfs_schema.proofs.ValueFacts.{counted_amount}
 
 -- ---- the seconds of a time

@@ -5,12 +5,12 @@ use Rattle.std.proofs.lemmas.Bool.{and_from as and_both, eqb-true as same_number
 use Rattle.gtfs_table.specs.Tables.{Dataset}
 use Rattle.gtfs_table.specs.declared.file.File.TheVariants as file
 use Rattle.gtfs_schema.specs.declared.code.Code.TheVariants as code
-use Rattle.gtfs_schema.specs.steps.Found.{Adds, Reports, is_same}
+use Rattle.gtfs_schema.specs.steps.FoundProblems.{Adds, Reports, is_same}
 use Rattle.gtfs_schema.specs.PeriodRules.{overlaps_earlier}
-use Rattle.gtfs_schema.specs.steps.Picks.{at_column, is_kept, of_codes}
+use Rattle.gtfs_schema.specs.steps.KeptColumns.{at_column, is_kept, of_codes}
 use Rattle.gtfs_schema.specs.Problems.{FileName, kept, other, Problem, holds, holds_in, is_code, lists_problem, is_problem}
 use Rattle.gtfs_schema.specs.steps.ProblemOrder.{same_file}
-use Rattle.gtfs_schema.specs.Rows.{file_rank, is_file}
+use Rattle.gtfs_schema.specs.RowConditions.{file_rank, is_file}
 use Rattle.gtfs_table.specs.Rows.{is_row, records_in}
 use Rattle.gtfs_schema.proofs.BoolFacts.{and_parts, or_left, same_test}
 use Rattle.gtfs_schema.proofs.SiteFacts.{code_is, file_itself, problem_at}

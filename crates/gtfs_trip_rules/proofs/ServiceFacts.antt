@@ -12,12 +12,12 @@ use Rattle.gtfs_trip_rules.specs.declared.services.source.Source.{Source}
 use Rattle.gtfs_trip_rules.specs.declared.services.source.Source.TheVariants as source
 use Rattle.gtfs_schema.specs.Calendars.{exception_in, first_service_row, week_in}
 use Rattle.gtfs_schema.specs.Problems.{holds_in}
-use Rattle.gtfs_schema.specs.Reads.{is_id}
+use Rattle.gtfs_schema.specs.ReadFields.{is_id}
 use Rattle.gtfs_table.specs.Rows.{is_row, records_in, rows}
 use Rattle.gtfs_trip_rules.specs.ServiceRows.{calendars_in, exception_in_texts, id_in, week_in_texts}
 use Rattle.gtfs_schema.specs.ServiceRules.{has_sound_rows, is_reported_row, never_runs, is_never_active as breaks_rule}
-use Rattle.gtfs_trip_rules.specs.ServiceView.{are_idle, file_of, first_of, is_never_active, is_sound_and_idle, is_reported, of_source, reported_row, Calendars}
-use Rattle.gtfs_schema.specs.Values.{if_there}
+use Rattle.gtfs_trip_rules.specs.ServiceCalendars.{are_idle, file_of, first_of, is_never_active, is_sound_and_idle, is_reported, of_source, reported_row, Calendars}
+use Rattle.gtfs_schema.specs.FieldValues.{if_there}
 use Rattle.gtfs_trip_rules.proofs.ServiceTexts.{id_word}
 use Rattle.gtfs_trip_rules.proofs.SoundRows.{find_first}
 use Rattle.gtfs_trip_rules.proofs.SoundServices.{dates, exceptions_sound, has_date_id, has_week_id, kept_rows, rows_of_id, weeks, weeks_sound}

@@ -7,10 +7,10 @@ use Rattle.gtfs_table.specs.Tables.{Dataset}
 use Rattle.gtfs_table.specs.declared.file.File.{File}
 use Rattle.gtfs_table.specs.declared.file.File.TheVariants as file
 use Rattle.gtfs_schema.specs.declared.code.Code.TheVariants as code
-use Rattle.gtfs_schema.specs.steps.Found.{Reports}
-use Rattle.gtfs_schema.specs.steps.Picks.{at_column, is_kept, of_codes}
+use Rattle.gtfs_schema.specs.steps.FoundProblems.{Reports}
+use Rattle.gtfs_schema.specs.steps.KeptColumns.{at_column, is_kept, of_codes}
 use Rattle.gtfs_schema.specs.Problems.{FileName, kept, other, Problem, holds, is_code, is_problem}
-use Rattle.gtfs_schema.specs.Rows.{file_rank, is_file, reported_at, Rule}
+use Rattle.gtfs_schema.specs.RowConditions.{file_rank, is_file, reported_at, Rule}
 use Rattle.gtfs_table.specs.Rows.{is_row, records_in}
 use Rattle.gtfs_schema.specs.ServiceRules.{is_never_active}
 use Rattle.gtfs_schema.proofs.BoolFacts.{and_parts, or_left, or_right, same_test}

@@ -14,11 +14,11 @@ use Rattle.gtfs_table.specs.Tables.{Dataset}
 use Rattle.gtfs_table.specs.declared.file.File.TheVariants as file
 use Rattle.gtfs_schema.specs.Calendars.{exception_in, week_in}
 use Rattle.gtfs_schema.specs.Columns.{id, choice, date, columns_of}
-use Rattle.gtfs_schema.specs.Reads.{is_id}
-use Rattle.gtfs_schema.specs.Rows.{value_in}
+use Rattle.gtfs_schema.specs.ReadFields.{is_id}
+use Rattle.gtfs_schema.specs.RowConditions.{value_in}
 use Rattle.gtfs_trip_rules.specs.ServiceRows.{date_text, exception_in_texts, week_in_texts, week_text}
-use Rattle.gtfs_trip_rules.specs.ServiceView.{exception_type_of}
-use Rattle.gtfs_schema.specs.Values.{word, amount, as_amount, as_word, value_of_count, has_control, measured, one_of, readable}
+use Rattle.gtfs_trip_rules.specs.ServiceCalendars.{exception_type_of}
+use Rattle.gtfs_schema.specs.FieldValues.{word, amount, as_amount, as_word, value_of_count, has_control, measured, one_of, readable}
 use Rattle.gtfs_table.specs.Rows.{is_empty}
 use Rattle.gtfs_schema.proofs.BoolFacts.{and_parts}
 use Rattle.gtfs_schema.proofs.ValueFacts.{amount_back, counted_amount}

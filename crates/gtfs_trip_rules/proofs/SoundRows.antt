@@ -10,8 +10,8 @@ use Rattle.gtfs_field.proofs.NumberFacts.{one_way as not_above}
 use Rattle.gtfs_days.specs.declared.exception.Exception.{Exception}
 use Rattle.gtfs_days.specs.declared.week.Week.{Week}
 use Rattle.gtfs_schema.specs.KeyRules.{all_there}
-use Rattle.gtfs_trip_rules.specs.ServiceView.{each_day_once, first_of, if_ordered, week_of_rows}
-use Rattle.gtfs_schema.specs.Values.{if_both}
+use Rattle.gtfs_trip_rules.specs.ServiceCalendars.{each_day_once, first_of, if_ordered, week_of_rows}
+use Rattle.gtfs_schema.specs.FieldValues.{if_both}
 use Rattle.gtfs_schema.proofs.BoolFacts.{and_parts}
 
 -- ---- tests

@@ -18,13 +18,13 @@ use Rattle.gtfs_trip_rules.specs.declared.services.source.Source.TheVariants as 
 use Rattle.gtfs_schema.specs.Calendars.{exception_in, first_service_row, service_rows, week_in}
 use Rattle.gtfs_schema.specs.Columns.{id}
 use Rattle.gtfs_schema.specs.KeyRules.{all_there, same_key}
-use Rattle.gtfs_schema.specs.Reads.{is_id}
-use Rattle.gtfs_schema.specs.Rows.{amount_in, value_in, word_in}
+use Rattle.gtfs_schema.specs.ReadFields.{is_id}
+use Rattle.gtfs_schema.specs.RowConditions.{amount_in, value_in, word_in}
 use Rattle.gtfs_table.specs.Rows.{is_row, records_in, rows}
 use Rattle.gtfs_trip_rules.specs.ServiceRows.{date_text, exception_in_texts, id_in, week_in_texts, week_text}
 use Rattle.gtfs_schema.specs.ServiceRules.{ends_before_start, has_sound_rows, is_sound_row}
-use Rattle.gtfs_trip_rules.specs.ServiceView.{each_day_once, exceptions_of_rows, file_of, week_of_rows}
-use Rattle.gtfs_schema.specs.Values.{Value, word, amount, as_word, if_both, if_there, is_word, readable, value_eq}
+use Rattle.gtfs_trip_rules.specs.ServiceCalendars.{each_day_once, exceptions_of_rows, file_of, week_of_rows}
+use Rattle.gtfs_schema.specs.FieldValues.{Value, word, amount, as_word, if_both, if_there, is_word, readable, value_eq}
 use Rattle.gtfs_schema.proofs.BoolFacts.{and_parts}
 use Rattle.gtfs_schema.proofs.SiteFacts.{text_is}
 use Rattle.gtfs_schema.proofs.NamedFacts.{text_turned as same_text}

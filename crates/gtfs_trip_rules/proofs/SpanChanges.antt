@@ -7,7 +7,7 @@ use Rattle.std.proofs.lemmas.Bool.{cases_Bool}
 use Rattle.std.proofs.lemmas.Bool.Decides.{nat_tests}
 use Rattle.gtfs_schema.proofs.BoolFacts.{or_left, or_right, same_test}
 use Rattle.gtfs_trip_rules.proofs.SpanFacts.{covers_by, same_key, shares_all, shares_parts}
-use Rattle.gtfs_trip_rules.specs.SpanView.{AreApart, AreFilled, Key, Spans, covers, key_cmp, shares, span_end}
+use Rattle.gtfs_trip_rules.specs.PeriodSpans.{AreApart, AreFilled, Key, Spans, covers, key_cmp, shares, span_end}
 
 -- ---- one taken out
 

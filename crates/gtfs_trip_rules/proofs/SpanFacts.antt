@@ -16,7 +16,7 @@ use Rattle.std.proofs.lemmas.Map.Views.{All-found}
 use Rattle.gtfs_field.proofs.OrderingFacts.{tied as then_equal}
 use Rattle.gtfs_field.proofs.ListFacts.{any_silent as no_entry}
 use Rattle.gtfs_schema.proofs.BoolFacts.{and_parts, no_test}
-use Rattle.gtfs_trip_rules.specs.SpanView.{Key, Spans, covers, key_cmp, shares, span_end}
+use Rattle.gtfs_trip_rules.specs.PeriodSpans.{Key, Spans, covers, key_cmp, shares, span_end}
 
 -- ---- the seconds of two periods
 

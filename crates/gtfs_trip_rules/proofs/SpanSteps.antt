@@ -16,7 +16,7 @@ use Rattle.std.proofs.lemmas.Map.Lookups.{exact_unsigned}
 use Rattle.gtfs_field.proofs.OrderingFacts.{nat-less as less_first}
 use Rattle.gtfs_schema.proofs.BoolFacts.{no_test, and_parts}
 use Rattle.gtfs_trip_rules.proofs.SpanFacts.{covered_by, covers_by, shares_all, shares_parts}
-use Rattle.gtfs_trip_rules.specs.SpanView.{AreApart, AreFilled, IsMet, Key, Spans, covers, key_cmp, shares, span_end}
+use Rattle.gtfs_trip_rules.specs.PeriodSpans.{AreApart, AreFilled, IsMet, Key, Spans, covers, key_cmp, shares, span_end}
 
 -- ---- the keys of a trip up to an end
 

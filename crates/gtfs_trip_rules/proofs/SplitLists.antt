@@ -10,7 +10,7 @@ use Rattle.std.specs.declared.cmp.Ordering.TheVariants.{Less}
 use Rattle.std.proofs.lemmas.Bool.{cases_Bool}
 use Rattle.std.proofs.lemmas.List.{drop_more, reverse-append, reverse-reverse, take-append-drop, take_more}
 use Rattle.std.proofs.Math.Bool.{and-false as and_none, and-true as and_so, or-false as or_none}
-use Rattle.gtfs_schema.specs.Values.{if_there}
+use Rattle.gtfs_schema.specs.FieldValues.{if_there}
 use Rattle.gtfs_schema.proofs.BoolFacts.{no_test}
 
 -- ---- a list by what stands before a position, the last first, and from there on

@@ -13,20 +13,20 @@ use Rattle.gtfs_schema.specs.declared.code.Code.TheVariants as code
 use Rattle.gtfs_trip_rules.specs.declared.stop_times.columns.ReadStopTime.{ReadStopTime}
 use Rattle.gtfs_trip_rules.specs.declared.stop_times.named.NamedRows.{NamedRows}
 use Rattle.gtfs_schema.specs.Columns.{id, time}
-use Rattle.gtfs_schema.specs.steps.Found.{Adds, is_same}
+use Rattle.gtfs_schema.specs.steps.FoundProblems.{Adds, is_same}
 use Rattle.gtfs_schema.specs.steps.Ids.{FirstRows, first_row_with, first_rows}
-use Rattle.gtfs_schema.specs.steps.Picks.{at_column}
+use Rattle.gtfs_schema.specs.steps.KeptColumns.{at_column}
 use Rattle.gtfs_schema.specs.steps.SitePicks.{at_sites}
 use Rattle.gtfs_schema.specs.Problems.{Problem, holds_in, is_problem}
-use Rattle.gtfs_trip_rules.specs.Readings.{is_blank, text_of, value_in}
-use Rattle.gtfs_schema.specs.Reads.{amount_of}
+use Rattle.gtfs_trip_rules.specs.StopTimeFields.{is_blank, text_of, value_in}
+use Rattle.gtfs_schema.specs.ReadFields.{amount_of}
 use Rattle.gtfs_table.specs.Rows.{is_row, records_in, is_empty}
 use Rattle.gtfs_schema.specs.steps.StopTypes.{type_of, type_with}
 use Rattle.gtfs_trip_rules.specs.StopTimePicks.{at_row, departures_in_rows, in_names, in_times, names_in_rows, stops_in_rows, times_in_rows}
 use Rattle.gtfs_trip_rules.specs.StopTimes.{stop_time_text, AreNamedRows, IsRow, ReportsOfRow}
 use Rattle.gtfs_schema.specs.TripRules.{lacks_time, leaves_early}
 use Rattle.gtfs_schema.specs.steps.UnknownIds.{is_unknown}
-use Rattle.gtfs_schema.specs.Values.{word, amount, as_amount, as_word, has_control, if_both, if_there, is_one_of, readable}
+use Rattle.gtfs_schema.specs.FieldValues.{word, amount, as_amount, as_word, has_control, if_both, if_there, is_one_of, readable}
 use Rattle.gtfs_schema.proofs.SiteFacts.{problem_at}
 use Rattle.gtfs_schema.proofs.ReferenceFacts.{unknown_in}
 use Rattle.gtfs_schema.proofs.RuleFacts.{row_reported}

@@ -12,16 +12,16 @@ use Rattle.gtfs_trip_rules.specs.declared.stop_times.columns.ReadStopTime.{ReadS
 use Rattle.gtfs_trip_rules.specs.declared.stop_times.columns.StopTimeColumns.{StopTimeColumns}
 use Rattle.gtfs_trip_rules.specs.declared.stop_times.reading.Reading.{Reading}
 use Rattle.gtfs_trip_rules.specs.declared.stop_times.reading.Reading.TheVariants as reading
-use Rattle.gtfs_schema.specs.steps.Cells.{fault_code, is_found, when}
+use Rattle.gtfs_schema.specs.steps.CellFaults.{fault_code, is_found, when}
 use Rattle.gtfs_schema.specs.Columns.{Column, Kind, columns_of, column_named, id, count, time, up_to}
 use Rattle.gtfs_schema.specs.steps.FieldCodes.{field_codes, in_file_of, is_found_at, is_in_row, length_code}
-use Rattle.gtfs_schema.specs.steps.Found.{Adds}
+use Rattle.gtfs_schema.specs.steps.FoundProblems.{Adds}
 use Rattle.gtfs_schema.specs.Problems.{Problem, lists_problem, is_problem}
-use Rattle.gtfs_trip_rules.specs.Readings.{code_in, fault_in, is_blank}
-use Rattle.gtfs_schema.specs.Rows.{is_named}
+use Rattle.gtfs_trip_rules.specs.StopTimeFields.{code_in, fault_in, is_blank}
+use Rattle.gtfs_schema.specs.RowConditions.{is_named}
 use Rattle.gtfs_trip_rules.specs.StopTimePicks.{at_row}
 use Rattle.gtfs_trip_rules.specs.StopTimes.{cells_of, fields_report, stop_time_text, AreStopTimeColumns, IsReading, IsRow, ReportsOfRow}
-use Rattle.gtfs_schema.specs.Values.{Value, if_there}
+use Rattle.gtfs_schema.specs.FieldValues.{Value, if_there}
 use Rattle.gtfs_table.specs.Rows.{is_empty}
 use Rattle.gtfs_schema.proofs.FieldRowFacts.{cell_at, cell_reported, empty_is, here_reported, length_reported}
 use Rattle.gtfs_schema.proofs.NamedFacts.{kept_any, kept_name_is, named_located}

@@ -8,8 +8,8 @@ use Rattle.gtfs_schema.specs.declared.code.Code.{Code}
 use Rattle.gtfs_schema.specs.declared.code.Code.TheVariants as code
 use Rattle.gtfs_trip_rules.specs.declared.stop_times.named.NamedRows.{NamedRows}
 use Rattle.gtfs_schema.specs.steps.FieldCodes.{field_codes, in_file_of}
-use Rattle.gtfs_schema.specs.steps.Found.{Reports}
-use Rattle.gtfs_schema.specs.steps.Picks.{at_column, in_file}
+use Rattle.gtfs_schema.specs.steps.FoundProblems.{Reports}
+use Rattle.gtfs_schema.specs.steps.KeptColumns.{at_column, in_file}
 use Rattle.gtfs_schema.specs.steps.SitePicks.{at_sites}
 use Rattle.gtfs_schema.specs.Problems.{Problem, is_problem}
 use Rattle.gtfs_table.specs.Rows.{is_row, records_in}

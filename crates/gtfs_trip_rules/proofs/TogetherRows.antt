@@ -20,7 +20,7 @@ use Rattle.gtfs_table.specs.Tables.{Dataset}
 use Rattle.gtfs_table.specs.declared.file.File.TheVariants as file
 use Rattle.gtfs_schema.specs.declared.code.Code.TheVariants as code
 use Rattle.gtfs_schema.specs.Problems.{Problem, lists_problem}
-use Rattle.gtfs_schema.specs.steps.Found.{Reports, is_same}
+use Rattle.gtfs_schema.specs.steps.FoundProblems.{Reports, is_same}
 use Rattle.gtfs_schema.proofs.BoolFacts.{and_parts}
 use Rattle.gtfs_schema.proofs.SiteFacts.{problem_at}
 use Rattle.gtfs_stop_times.specs.KeptLists.{no_note, no_row, noted_row}
@@ -28,7 +28,7 @@ use Rattle.gtfs_stop_times.specs.KeptStretches.{AreRising}
 use Rattle.gtfs_stop_times.specs.KeptTimes.{is_placed, is_untimed}
 use Rattle.gtfs_trip_rules.specs.StopTimePicks.{breaks_order}
 use Rattle.gtfs_trip_rules.specs.TripCounts.{AreKept}
-use Rattle.gtfs_trip_rules.specs.TripJudged.{all_fit, are_together, ends_timed, ends_trip, fits, goes_on, is_end_untimed, is_late, last_of, names_trip, repeats_last, stands_with, AddsOfRow}
+use Rattle.gtfs_trip_rules.specs.JudgedTrips.{all_fit, are_together, ends_timed, ends_trip, fits, goes_on, is_end_untimed, is_late, last_of, names_trip, repeats_last, stands_with, AddsOfRow}
 use Rattle.gtfs_trip_rules.specs.TripNotes.{note_of, rows_of_notes, trip_notes_in}
 use Rattle.gtfs_trip_rules.specs.TripNumbers.{name_at, AllNumbered}
 use Rattle.gtfs_trip_rules.specs.TripOrder.{rows_before, InOrder}

@@ -16,16 +16,16 @@ use Rattle.gtfs_schema.specs.declared.code.Code.TheVariants as code
 use Rattle.gtfs_stop_times.specs.declared.stop_time.StopTime.{StopTime}
 use Rattle.gtfs_schema.specs.Problems.{holds_in}
 use Rattle.gtfs_table.specs.Rows.{is_row, records_in}
-use Rattle.gtfs_schema.specs.Rows.{text_in}
+use Rattle.gtfs_schema.specs.RowConditions.{text_in}
 use Rattle.gtfs_trip_rules.specs.TripCounts.{AreCounts, AreKept, count_of}
 use Rattle.gtfs_trip_rules.specs.declared.trips.judge.Judge.{Judge}
 use Rattle.gtfs_stop_times.specs.KeptTimes.{is_placed}
-use Rattle.gtfs_trip_rules.specs.TripJudged.{Judges}
+use Rattle.gtfs_trip_rules.specs.JudgedTrips.{Judges}
 use Rattle.gtfs_trip_rules.specs.TripNotes.{note_of, times_noted, trip_notes_in}
 use Rattle.gtfs_trip_rules.specs.TripNumbers.{AreNamed, AreNumbered, Keeps, name_at, number_of_trip}
 use Rattle.gtfs_schema.specs.Columns.{id as id_kind}
-use Rattle.gtfs_schema.specs.Reads.{word_of}
-use Rattle.gtfs_schema.specs.Values.{if_there}
+use Rattle.gtfs_schema.specs.ReadFields.{word_of}
+use Rattle.gtfs_schema.specs.FieldValues.{if_there}
 use Rattle.gtfs_schema.proofs.BoolFacts.{and_parts, same_test}
 use Rattle.gtfs_schema.proofs.SiteFacts.{text_is, text_itself}
 use Rattle.gtfs_trip_rules.proofs.TripNumberFacts.{one_numbered, rows_stay}

@@ -10,9 +10,9 @@ use Rattle.gtfs_table.specs.declared.file.File.TheVariants as file
 use Rattle.gtfs_schema.specs.declared.code.Code.{Code}
 use Rattle.gtfs_schema.specs.declared.code.Code.TheVariants as code
 use Rattle.gtfs_schema.specs.KeyRules.{key_twice}
-use Rattle.gtfs_schema.specs.steps.Picks.{at_column, in_file, is_kept, of_codes}
+use Rattle.gtfs_schema.specs.steps.KeptColumns.{at_column, in_file, is_kept, of_codes}
 use Rattle.gtfs_schema.specs.Problems.{FileName, kept, other, Problem, holds, is_code, is_problem}
-use Rattle.gtfs_schema.specs.Rows.{Rule, file_rank, is_file, reported_at}
+use Rattle.gtfs_schema.specs.RowConditions.{Rule, file_rank, is_file, reported_at}
 use Rattle.gtfs_table.specs.Rows.{is_row, records_in}
 use Rattle.gtfs_schema.specs.TripRules.{goes_back, is_end_untimed}
 use Rattle.gtfs_trip_rules.specs.StopTimePicks.{breaks_order}

@@ -7,7 +7,7 @@ use Rattle.std.specs.Option.{unwrap_or}
 use Rattle.std.proofs.lemmas.List.Elements.{All-filter, filter_passes}
 use Rattle.std.proofs.lemmas.List.Sorted.{All-permutation}
 use Rattle.gtfs_table.specs.Tables.{Dataset}
-use Rattle.gtfs_trip_rules.specs.Kept.{AllKeep, Keeps}
+use Rattle.gtfs_trip_rules.specs.KeptRows.{AllKeep, Keeps}
 use Rattle.gtfs_trip_rules.specs.KeptOrder.{AreKeptOf}
 use Rattle.gtfs_stop_times.specs.KeptTimes.{is_placed}
 use Rattle.gtfs_trip_rules.specs.TripNotes.{note_of, rows_of_notes, trip_notes_in, Noted}

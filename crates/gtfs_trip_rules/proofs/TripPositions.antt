@@ -9,7 +9,7 @@ use Rattle.std.proofs.lemmas.Bool.{cases_Bool}
 use Rattle.gtfs_field.proofs.ListFacts.{any_alike}
 use Rattle.gtfs_trip_rules.specs.TripOrder.{ends, follows, last_left, left_before, repeats, row_cmp, same_sequence, same_trip}
 use Rattle.gtfs_trip_rules.specs.TripStopTimes.{TripStopTime}
-use Rattle.gtfs_schema.specs.Values.{if_there}
+use Rattle.gtfs_schema.specs.FieldValues.{if_there}
 use Rattle.gtfs_schema.proofs.BoolFacts.{no_test}
 use Rattle.gtfs_trip_rules.proofs.SplitLists.{IsAscending, IsDescending, IsSplit, any_none, any_or, far_before, first_is, last_split, near_split, not_back, not_itself, only_after, onto}
 use Rattle.gtfs_trip_rules.proofs.TripStopTimeOrder.{higher_alike, is_earlier_twin, is_higher_in_trip, is_lower, later_or_twin, next_higher, not_higher, sequence_before, row_total, stands_as_order, stands_first, stands_in_trip, trip_after, trip_before, trip_itself, trips_alike, twins_as_order}

@@ -17,15 +17,15 @@ use Rattle.gtfs_table.specs.declared.file.File.TheVariants as file
 use Rattle.gtfs_schema.specs.declared.code.Code.{Code}
 use Rattle.gtfs_schema.specs.declared.code.Code.TheVariants as code
 use Rattle.gtfs_stop_times.specs.declared.stop_time.StopTime.{StopTime}
-use Rattle.gtfs_schema.specs.steps.Found.{Adds, Reports, is_same}
-use Rattle.gtfs_schema.specs.steps.Picks.{at_column}
+use Rattle.gtfs_schema.specs.steps.FoundProblems.{Adds, Reports, is_same}
+use Rattle.gtfs_schema.specs.steps.KeptColumns.{at_column}
 use Rattle.gtfs_schema.specs.Problems.{Problem, holds_in, lists_problem, is_problem}
 use Rattle.gtfs_table.specs.Rows.{is_row, records_in, rows, is_empty}
 use Rattle.gtfs_trip_rules.specs.StopTimePicks.{breaks_order}
-use Rattle.gtfs_trip_rules.specs.TripJudged.{AddsOfRow}
+use Rattle.gtfs_trip_rules.specs.JudgedTrips.{AddsOfRow}
 use Rattle.gtfs_trip_rules.specs.TripOrder.{ends, is_left_later, is_untimed_end, left_before, repeats, row_cmp, rows_before, rows_from, same_sequence, same_trip, InOrder}
 use Rattle.gtfs_trip_rules.specs.TripStopTimes.{TripStopTime, has_trip_stop_time, trip_stop_time, trip_stop_time_in, trip_stop_times_in}
-use Rattle.gtfs_schema.specs.Values.{if_there}
+use Rattle.gtfs_schema.specs.FieldValues.{if_there}
 use Rattle.gtfs_schema.proofs.BoolFacts.{and_parts, or_left, or_right, same_test}
 use Rattle.gtfs_schema.proofs.SiteFacts.{at_column_is, problem_at}
 use Rattle.gtfs_schema.proofs.RowFacts.{at_row}

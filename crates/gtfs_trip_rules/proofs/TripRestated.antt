@@ -16,11 +16,11 @@ use Rattle.gtfs_table.specs.Tables.{Dataset}
 use Rattle.gtfs_table.specs.declared.file.File.TheVariants as file
 use Rattle.gtfs_schema.specs.KeyRules.{all_there, key_in, same_key}
 use Rattle.gtfs_table.specs.Rows.{rows, is_empty}
-use Rattle.gtfs_schema.specs.Rows.{text_in, word_in}
+use Rattle.gtfs_schema.specs.RowConditions.{text_in, word_in}
 use Rattle.gtfs_trip_rules.specs.TripOrder.{same_sequence, same_trip}
 use Rattle.gtfs_trip_rules.specs.TripStopTimes.{TripStopTime, has_trip_stop_time, trip_stop_time_in, trip_stop_times_in}
 use Rattle.gtfs_schema.specs.TripRules.{arrival_in, departure_in, goes_back, is_end_untimed, is_first_row, is_earlier_equal, is_last_row, is_timed_before, sequence_in, stands_before, timed_rows}
-use Rattle.gtfs_schema.specs.Values.{Value, amount, as_amount, as_word, value_of_count, has_control, if_both, if_there, is_word, value_eq, word}
+use Rattle.gtfs_schema.specs.FieldValues.{Value, amount, as_amount, as_word, value_of_count, has_control, if_both, if_there, is_word, value_eq, word}
 use Rattle.gtfs_schema.proofs.BoolFacts.{and_parts, no_test}
 use Rattle.gtfs_trip_rules.proofs.TripPositions.{is_left_late, is_timed_in, left_late}
 use Rattle.gtfs_trip_rules.proofs.TripStopTimeOrder.{is_earlier_twin, is_lower, stands_first}

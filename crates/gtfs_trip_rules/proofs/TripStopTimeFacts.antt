@@ -10,13 +10,13 @@ use Rattle.gtfs_table.specs.declared.file.File.TheVariants as file
 use Rattle.gtfs_stop_times.specs.declared.stop_time.StopTime.{StopTime}
 use Rattle.gtfs_table.specs.Rows.{Row, numbers, rows}
 use Rattle.gtfs_table.proofs.RowFacts.{numbers_more}
-use Rattle.gtfs_schema.specs.Rows.{text_in, word_in}
+use Rattle.gtfs_schema.specs.RowConditions.{text_in, word_in}
 use Rattle.gtfs_stop_times.specs.KeptTimes.{is_placed}
 use Rattle.gtfs_trip_rules.specs.TripNotes.{TripNote, has_trip_id, note_of, rows_of_notes, timed_row, times_noted, trip_note_in, trip_notes_in}
 use Rattle.gtfs_trip_rules.specs.TripStopTimes.{TripStopTime, has_trip_stop_time, trip_stop_time, trip_stop_time_in, trip_stop_times_in}
 use Rattle.gtfs_schema.specs.TripRules.{is_row_of, sequence_in}
 use Rattle.gtfs_trip_rules.specs.TripTexts.{note_of_values, note_read}
-use Rattle.gtfs_schema.specs.Values.{is_word}
+use Rattle.gtfs_schema.specs.FieldValues.{is_word}
 
 kept : {B : Type 0} (read : ℕ → Option B) (has : ℕ → Bool) (value : ℕ → B) → ((n : ℕ) → read n ≡ (if has n then Some (value n) else None))
     → (ns : List ℕ) → filter_map read ns ≡ map value (filter has ns)

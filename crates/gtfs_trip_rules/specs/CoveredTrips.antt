@@ -4,8 +4,8 @@ use Rattle.std.specs.Borrow.{Bor}
 use Rattle.std.specs.BTreeMap.{BTreeMap, btree_map_len, get_by}
 use Rattle.std.specs.Cmp.Lexicographic.{slice_cmp}
 use Rattle.std.specs.Ordering.{nat_cmp}
-use Rattle.gtfs_schema.specs.Values.{if_there}
-use Rattle.gtfs_trip_rules.specs.SpanView.{Spans, covers}
+use Rattle.gtfs_schema.specs.FieldValues.{if_there}
+use Rattle.gtfs_trip_rules.specs.PeriodSpans.{Spans, covers}
 
 abbrev pub Numbers : Type 0
 Numbers = BTreeMap (Bor (List ℕ)) ℕ

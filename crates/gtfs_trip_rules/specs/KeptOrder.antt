@@ -3,7 +3,7 @@ use Rattle.std.specs.Prelude.{◌≡◌, true, List}
 use Rattle.std.specs.List.{All}
 use Rattle.gtfs_table.specs.Tables.{Dataset}
 use Rattle.gtfs_stop_times.specs.declared.stop_time.StopTime.{StopTime}
-use Rattle.gtfs_trip_rules.specs.Kept.{AllKeep}
+use Rattle.gtfs_trip_rules.specs.KeptRows.{AllKeep}
 use Rattle.gtfs_stop_times.specs.KeptTimes.{is_placed}
 use Rattle.gtfs_trip_rules.specs.TripOrder.{AreInOrder}
 

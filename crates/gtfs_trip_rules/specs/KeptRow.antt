@@ -1,14 +1,14 @@
 -- A row of stop_times.txt as it is kept, by what was read of its fields.
 use Rattle.std.specs.Prelude.{ℕ, ◌||◌, Bool, if◌then◌else◌, Option, None, is_some}
 use Rattle.std.specs.Option.{unwrap_or}
-use Rattle.gtfs_stop_times.specs.declared.choices.DropOffType.TheVariants as drop_off
-use Rattle.gtfs_stop_times.specs.declared.choices.PickupType.TheVariants as pickup
+use Rattle.gtfs_stop_times.specs.declared.stop_time_choices.DropOffType.TheVariants as drop_off
+use Rattle.gtfs_stop_times.specs.declared.stop_time_choices.PickupType.TheVariants as pickup
 use Rattle.gtfs_stop_times.specs.declared.stop_row.StopRow.{StopRow}
 use Rattle.gtfs_trip_rules.specs.declared.stop_times.columns.ReadStopTime.{ReadStopTime}
 use Rattle.gtfs_stop_times.specs.declared.stop_time.StopTime.{StopTime}
 use Rattle.gtfs_stop_times.specs.declared.stop_time.ReadTimes.{ReadTimes}
 use Rattle.gtfs_stop_times.specs.declared.stop_time.ReadTimes.TheVariants as times
-use Rattle.gtfs_trip_rules.specs.Readings.{is_fault, value_in}
+use Rattle.gtfs_trip_rules.specs.StopTimeFields.{is_fault, value_in}
 
 -- how the times of a row stand that has a sequence or none, and of which one has a fault or none
 abbrev pub times_of : Bool → Bool → ReadTimes

@@ -10,7 +10,7 @@ use Rattle.gtfs_table.specs.Rows.{records_in}
 use Rattle.gtfs_table.specs.Tables.{Dataset, field_under, record_at}
 use Rattle.gtfs_table.specs.declared.file.File.TheVariants as file
 use Rattle.gtfs_trip_rules.specs.RowsById.{rows_of, text_under}
-use Rattle.gtfs_trip_rules.specs.ServiceView.{exception_of, of_source, week_of_days, weekdays_of, Calendars}
+use Rattle.gtfs_trip_rules.specs.ServiceCalendars.{exception_of, of_source, week_of_days, weekdays_of, Calendars}
 
 abbrev pub weekdays_at : Weekdays → List (List ℕ) → Option (List Bool)
 weekdays_at w r = weekdays_of

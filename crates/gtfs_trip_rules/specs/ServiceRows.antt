@@ -7,8 +7,8 @@ use Rattle.gtfs_table.specs.Tables.{Dataset}
 use Rattle.gtfs_table.specs.declared.file.File.TheVariants as file
 use Rattle.gtfs_trip_rules.specs.declared.services.source.Source.{Source}
 use Rattle.gtfs_table.specs.Rows.{rows}
-use Rattle.gtfs_schema.specs.Rows.{text_in}
-use Rattle.gtfs_trip_rules.specs.ServiceView.{exception_of, file_of, week_of_days, weekdays_of, Calendars}
+use Rattle.gtfs_schema.specs.RowConditions.{text_in}
+use Rattle.gtfs_trip_rules.specs.ServiceCalendars.{exception_of, file_of, week_of_days, weekdays_of, Calendars}
 
 abbrev pub week_text : Dataset → ℕ → Literal → List ℕ
 week_text d n name = text_in d file.Calendar n (codes name)

@@ -4,7 +4,7 @@ use Rattle.gtfs_table.specs.declared.file.File.{File}
 use Rattle.gtfs_table.specs.declared.file.File.TheVariants as file
 use Rattle.gtfs_schema.specs.declared.code.Code.TheVariants as code
 use Rattle.gtfs_schema.specs.steps.FieldCodes.{field_codes, in_file_of}
-use Rattle.gtfs_schema.specs.steps.Picks.{in_file, of_codes}
+use Rattle.gtfs_schema.specs.steps.KeptColumns.{in_file, of_codes}
 use Rattle.gtfs_schema.specs.steps.SitePicks.{at_sites}
 use Rattle.gtfs_schema.specs.Problems.{Problem}
 

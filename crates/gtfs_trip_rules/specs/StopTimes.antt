@@ -11,19 +11,19 @@ use Rattle.gtfs_trip_rules.specs.declared.stop_times.named.NamedId.{NamedId}
 use Rattle.gtfs_trip_rules.specs.declared.stop_times.named.NamedIds.{NamedIds}
 use Rattle.gtfs_trip_rules.specs.declared.stop_times.named.NamedRows.{NamedRows}
 use Rattle.gtfs_trip_rules.specs.declared.stop_times.reading.Reading.{Reading}
-use Rattle.gtfs_stop_times.specs.Choices.{drop_off_code, pickup_code, timepoint_code}
+use Rattle.gtfs_stop_times.specs.StopTimeChoices.{drop_off_code, pickup_code, timepoint_code}
 use Rattle.gtfs_schema.specs.Columns.{Kind, id, text, count, time, up_to}
 use Rattle.gtfs_schema.specs.steps.FieldCodes.{is_found_at, length_code}
 use Rattle.gtfs_schema.specs.FieldRules.{field_count}
-use Rattle.gtfs_schema.specs.steps.Found.{Reports}
+use Rattle.gtfs_schema.specs.steps.FoundProblems.{Reports}
 use Rattle.gtfs_schema.specs.steps.Ids.{FirstRows, first_row_with, first_rows, number_with}
 use Rattle.gtfs_schema.specs.Problems.{Problem}
-use Rattle.gtfs_trip_rules.specs.Readings.{code_in, fault_in, fault_of, is_blank, text_of, value_in}
+use Rattle.gtfs_trip_rules.specs.StopTimeFields.{code_in, fault_in, fault_of, is_blank, text_of, value_in}
 use Rattle.gtfs_table.specs.Rows.{is_row, records_in, is_empty}
-use Rattle.gtfs_schema.specs.Rows.{text_in}
+use Rattle.gtfs_schema.specs.RowConditions.{text_in}
 use Rattle.gtfs_schema.specs.steps.StopTypes.{AreStopTypes}
 use Rattle.gtfs_trip_rules.specs.StopTimePicks.{at_row}
-use Rattle.gtfs_schema.specs.Values.{Value, word, amount, readable}
+use Rattle.gtfs_schema.specs.FieldValues.{Value, word, amount, readable}
 
 abbrev pub stop_time_text : Dataset → ℕ → Literal → List ℕ
 stop_time_text d n name = text_in d file.StopTimes n (codes name)

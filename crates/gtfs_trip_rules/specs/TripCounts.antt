@@ -7,7 +7,7 @@ use Rattle.std.specs.Option.{unwrap_or}
 use Rattle.gtfs_stop_times.specs.declared.stop_time.StopTime.{StopTime}
 use Rattle.gtfs_trip_rules.specs.declared.trips.judge.Judge.{Judge}
 use Rattle.gtfs_stop_times.specs.KeptTimes.{is_placed}
-use Rattle.gtfs_trip_rules.specs.TripJudged.{Judges}
+use Rattle.gtfs_trip_rules.specs.JudgedTrips.{Judges}
 use Rattle.gtfs_trip_rules.specs.TripNumbers.{number_of_trip, AreNumbered}
 
 -- of each number how many rows have it, up to two

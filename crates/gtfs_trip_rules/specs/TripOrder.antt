@@ -8,7 +8,7 @@ use Rattle.gtfs_field.specs.TextOrder.{text_cmp}
 use Rattle.gtfs_table.specs.Tables.{Dataset}
 use Rattle.gtfs_stop_times.specs.declared.stop_time.StopTime.{StopTime}
 use Rattle.gtfs_stop_times.specs.StopTimeOrder.{kept_cmp}
-use Rattle.gtfs_schema.specs.Values.{if_both}
+use Rattle.gtfs_schema.specs.FieldValues.{if_both}
 use Rattle.gtfs_trip_rules.specs.TripNumbers.{AllNumbered}
 use Rattle.gtfs_trip_rules.specs.TripStopTimes.{TripStopTime, trip_stop_time, trip_stop_times_in}
 

@@ -6,7 +6,7 @@ use Rattle.gtfs_table.specs.declared.file.File.TheVariants as file
 use Rattle.gtfs_stop_times.specs.declared.stop_time.StopTime.{StopTime}
 use Rattle.gtfs_stop_times.specs.KeptTimes.{arrives, departs, is_untimed}
 use Rattle.gtfs_table.specs.Rows.{rows}
-use Rattle.gtfs_schema.specs.Rows.{is_empty_in, word_in}
+use Rattle.gtfs_schema.specs.RowConditions.{is_empty_in, word_in}
 use Rattle.gtfs_schema.specs.TripRules.{sequence_in, arrival_in, departure_in}
 
 pub record TripStopTime : Type 0 where

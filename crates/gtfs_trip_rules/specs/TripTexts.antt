@@ -4,10 +4,10 @@ use Rattle.std.specs.Option.{option_or}
 use Rattle.gtfs_table.specs.Tables.{Dataset}
 use Rattle.gtfs_table.specs.declared.file.File.TheVariants as file
 use Rattle.gtfs_schema.specs.Columns.{id, count, time}
-use Rattle.gtfs_schema.specs.Reads.{amount_of, word_of}
-use Rattle.gtfs_schema.specs.Rows.{text_in}
+use Rattle.gtfs_schema.specs.ReadFields.{amount_of, word_of}
+use Rattle.gtfs_schema.specs.RowConditions.{text_in}
 use Rattle.gtfs_trip_rules.specs.TripNotes.{TripNote}
-use Rattle.gtfs_schema.specs.Values.{readable}
+use Rattle.gtfs_schema.specs.FieldValues.{readable}
 use Rattle.gtfs_table.specs.Rows.{is_empty}
 
 -- a text is a time, or empty

@@ -4,11 +4,11 @@ mod trip_numbers;
 
 ghost use Rattle.std.specs.Prelude.{◌≡◌, [], ◌∷◌, ℕ, ◌||◌, Bool, List, IfOk, OnOk};
 ghost use Rattle.gtfs_schema.specs.declared.code.Code.TheVariants as code;
-ghost use Rattle.gtfs_schema.specs.steps.Found.{Reports};
+ghost use Rattle.gtfs_schema.specs.steps.FoundProblems.{Reports};
 ghost use Rattle.gtfs_trip_rules.specs.CoveredTrips.{AreOfTrips, covers_trip};
-ghost use Rattle.gtfs_trip_rules.specs.PeriodView.{meets_one, period_at};
-ghost use Rattle.gtfs_schema.specs.steps.Picks.{of_codes};
-ghost use Rattle.gtfs_schema.specs.Values.{if_there};
+ghost use Rattle.gtfs_trip_rules.specs.FrequencyPeriods.{meets_one, period_at};
+ghost use Rattle.gtfs_schema.specs.steps.KeptColumns.{of_codes};
+ghost use Rattle.gtfs_schema.specs.FieldValues.{if_there};
 
 use columns::FrequencyColumns;
 use covered::Covered;

@@ -1,11 +1,11 @@
 ghost use Rattle.std.specs.Prelude.{◌≡◌, ◌&&◌, ◌∷◌, [], ℕ, codes, map, IfOk, OnOk};
-ghost use Rattle.gtfs_schema.specs.steps.Found.{Reports};
-ghost use Rattle.gtfs_schema.specs.steps.Picks.{at_column, of_codes};
+ghost use Rattle.gtfs_schema.specs.steps.FoundProblems.{Reports};
+ghost use Rattle.gtfs_schema.specs.steps.KeptColumns.{at_column, of_codes};
 ghost use Rattle.gtfs_schema.specs.Problems.{holds_in};
 ghost use Rattle.gtfs_table.specs.Rows.{is_row as row_of, records_in};
 ghost use Rattle.gtfs_trip_rules.specs.ServiceFields.{calendars_of};
 ghost use Rattle.gtfs_trip_rules.specs.ServiceRows.{calendars_in};
-ghost use Rattle.gtfs_trip_rules.specs.ServiceView.{are_idle, file_of, first_of, is_reported, reported_row};
+ghost use Rattle.gtfs_trip_rules.specs.ServiceCalendars.{are_idle, file_of, first_of, is_reported, reported_row};
 ghost use Rattle.gtfs_schema.specs.declared.code.Code.TheVariants as code;
 
 pub(crate) mod by_id;

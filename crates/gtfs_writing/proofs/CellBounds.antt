@@ -11,10 +11,10 @@ use Rattle.gtfs_field.specs.Digits.{wide}
 use Rattle.gtfs_field.specs.Kinds.{is_in_ranges}
 use Rattle.gtfs_field.proofs.Wides.{length-wide, wide-digits}
 use Rattle.gtfs_schema.specs.Columns.{Kind, id, text, count, choice, time, date, colour, coordinate, Column}
-use Rattle.gtfs_schema.specs.Values.{Value, word, amount}
+use Rattle.gtfs_schema.specs.FieldValues.{Value, word, amount}
 use Rattle.gtfs_rows.specs.Cells.{Cell, are_cells, cell_text, is_between, is_cell, is_of_kind, record_text, text_of}
 use Rattle.gtfs_rows.proofs.CellTexts.{natural_between}
-use Rattle.gtfs_table.specs.Written.{text_of_records}
+use Rattle.gtfs_table.specs.TableTexts.{text_of_records}
 use Rattle.gtfs_writing.proofs.PlainTexts.{count-plain, digits-plain}
 
 -- ---- fields

@@ -3,7 +3,7 @@ use Rattle.std.proofs.Common.{◌≡◌, ◌∙◌, ap, sym, ℕ, suc, ◌+◌, 
 use Rattle.std.specs.List.{list_all, slice_get}
 use Rattle.std.proofs.lemmas.List.{drop_all}
 use Rattle.std.proofs.lemmas.Option.{get_or_from_slice_get}
-use Rattle.gtfs_table.specs.Parts.{parts}
+use Rattle.gtfs_table.specs.FieldOffsets.{parts}
 use Rattle.gtfs_table.proofs.PartFacts.{length-parts}
 use Rattle.gtfs_rows.specs.declared.frequency.Frequency.{Frequency}
 use Rattle.gtfs_rows.specs.declared.parts.Parts.{Parts}
@@ -12,9 +12,9 @@ use Rattle.gtfs_rows.specs.declared.trip.Trip.{Trip}
 use Rattle.gtfs_rows.specs.Cells.{Cell}
 use Rattle.gtfs_rows.specs.RowCells.{held_by}
 use Rattle.gtfs_rows.specs.Rows.{Trip as TripWithRows}
-use Rattle.gtfs_rows.specs.Views.{IsSoundParts, trip_of, trips_of}
+use Rattle.gtfs_rows.specs.RowsInMemory.{IsSoundParts, trip_of, trips_of}
 use Rattle.gtfs_rows.proofs.RowTexts.{all_at}
-use Rattle.gtfs_writing.specs.Taking.{Taking, with_rows}
+use Rattle.gtfs_writing.specs.TakenRecords.{Taking, with_rows}
 use Rattle.gtfs_writing.proofs.Taken.{mapped-append, step}
 
 -- what holds of each item of a list

@@ -14,8 +14,8 @@ use Rattle.gtfs_field.proofs.Numerals.{digit-bounds}
 use Rattle.gtfs_field.proofs.Texts.{decimal-digits}
 use Rattle.gtfs_rows.specs.declared.parts.Parts.{Parts}
 use Rattle.gtfs_rows.specs.declared.stop.Stop.{Stop}
-use Rattle.gtfs_rows.specs.Views.{stop_ids, text_of_number}
-use Rattle.gtfs_writing.specs.Plain.{is_plain_stop}
+use Rattle.gtfs_rows.specs.RowsInMemory.{stop_ids, text_of_number}
+use Rattle.gtfs_writing.specs.PlainStops.{is_plain_stop}
 
 -- two digits of a count below a hundred
 pub two-digits : (n tens ones : ℕ) → 10 ≤ n → n < 100 → tens ≡ 48 + n / 10 % 10 → ones ≡ 48 + n % 10 → tens ∷ ones ∷ [] ≡ count_text n

@@ -9,11 +9,11 @@ use Rattle.std.proofs.lemmas.List.Folds.{list_all-append}
 use Rattle.csv.specs.Records.{Rising}
 use Rattle.csv.specs.Writing.{default_writer, fields_text, is_blank, row_text}
 use Rattle.csv.proofs.RecordFacts.{rising-first}
-use Rattle.gtfs_table.specs.Parts.{parts}
-use Rattle.gtfs_table.specs.Written.{text_of_records}
+use Rattle.gtfs_table.specs.FieldOffsets.{parts}
+use Rattle.gtfs_table.specs.TableTexts.{text_of_records}
 use Rattle.gtfs_table.specs.declared.file.File.TheVariants as file
 use Rattle.gtfs_schema.specs.Columns.{columns_of, text, time, up_to}
-use Rattle.gtfs_schema.specs.Values.{word}
+use Rattle.gtfs_schema.specs.FieldValues.{word}
 use Rattle.gtfs_rows.specs.declared.frequency.Frequency.{Frequency}
 use Rattle.gtfs_rows.specs.declared.parts.Parts.{Parts}
 use Rattle.gtfs_stop_times.specs.declared.stop_row.StopRow.{StopRow as StopTime}
@@ -21,8 +21,8 @@ use Rattle.gtfs_rows.specs.declared.trip.Trip.{Trip}
 use Rattle.gtfs_rows.specs.Cells.{are_cells, record_text}
 use Rattle.gtfs_rows.specs.RowCells.{held_by, value_of_number, stop_time_cells, stop_times_of}
 use Rattle.gtfs_rows.specs.Rows.{StopRow, Trip as TripWithRows}
-use Rattle.gtfs_rows.specs.Views.{IsSoundParts, content_of_parts, stop_ids, stop_row_of, text_of_number, trips_of}
-use Rattle.gtfs_writing.specs.Bounds.{longest}
+use Rattle.gtfs_rows.specs.RowsInMemory.{IsSoundParts, content_of_parts, stop_ids, stop_row_of, text_of_number, trips_of}
+use Rattle.gtfs_writing.specs.LongestTexts.{longest}
 use Rattle.gtfs_rows.specs.FileTexts.{is_longer, written_text}
 use Rattle.gtfs_writing.proofs.CellBounds.{cell_most, row-bound, rows-bound}
 use Rattle.gtfs_rows.proofs.FileTexts.{text-of-cells}

@@ -3,7 +3,7 @@ use Rattle.std.proofs.Common.{◌≡◌, ◌∙◌, ap, sym, refl, ℕ, ◌++◌
 use Rattle.std.specs.List.{list_all}
 use Rattle.std.specs.Result.{OnOk}
 use Rattle.std.proofs.lemmas.Bool.{and_parts, ne_eqb}
-use Rattle.gtfs_table.specs.Parts.{add_to_last}
+use Rattle.gtfs_table.specs.FieldOffsets.{add_to_last}
 use Rattle.gtfs_table.specs.Tables.{Records, Table, Dataset, of_records, table_of, table_records, with_record, with_table}
 use Rattle.gtfs_table.specs.declared.file.File.{File}
 use Rattle.gtfs_table.specs.declared.file.File.TheVariants as file
@@ -11,10 +11,10 @@ use Rattle.gtfs_schema.specs.Columns.{Column, columns_of}
 use Rattle.gtfs_rows.specs.Cells.{Cell, are_cells, record_text}
 use Rattle.gtfs_rows.specs.Content.{Content}
 use Rattle.gtfs_rows.specs.RowCells.{cells_in}
-use Rattle.gtfs_rows.specs.Sound.{IsSound}
-use Rattle.gtfs_rows.specs.Written.{records_of_cells}
+use Rattle.gtfs_rows.specs.SoundContent.{IsSound}
+use Rattle.gtfs_rows.specs.WrittenContent.{records_of_cells}
 use Rattle.gtfs_writing.specs.declared.table_rows.TableRows.{TableRows}
-use Rattle.gtfs_writing.specs.Taking.{into_table, with_fields, with_more, with_row, with_rows}
+use Rattle.gtfs_writing.specs.TakenRecords.{into_table, with_fields, with_more, with_row, with_rows}
 
 -- the tables with this one for a file, when rows of that file are taken
 abbrev put : Dataset → File → Table → TableRows

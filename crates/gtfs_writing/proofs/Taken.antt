@@ -2,7 +2,7 @@
 use Rattle.std.proofs.Common.{◌≡◌, ◌∙◌, ap, sym, ℕ, suc, ◌+◌, ◌<◌, ◌≤◌, ◌++◌, ◌∷◌, List, [], get_or, drop, length, map, refl, add-one, drop-cons}
 use Rattle.std.proofs.lemmas.List.{drop_all, map-append}
 use Rattle.gtfs_table.specs.Tables.{Records}
-use Rattle.gtfs_writing.specs.Taking.{Taking, with_fields, with_row, with_rows}
+use Rattle.gtfs_writing.specs.TakenRecords.{Taking, with_fields, with_row, with_rows}
 
 with_rows-append : {S : Type 0} (t : Taking S) (s : S) (a b : Records) → with_rows t s (a ++ b) ≡ with_rows t (with_rows t s a) b
 with_rows-append t s [] b = refl

@@ -6,7 +6,7 @@ use Rattle.std.proofs.lemmas.Bool.{and_parts}
 use Rattle.std.proofs.lemmas.List.Elements.{All-nil, All-cons}
 use Rattle.std.proofs.lemmas.Str.{is_utf8-from_IsUtf8}
 use Rattle.gtfs_table.specs.Tables.{Records, of_records, table_of, table_of_bytes, without_marks}
-use Rattle.gtfs_table.specs.Written.{text_of_records}
+use Rattle.gtfs_table.specs.TableTexts.{text_of_records}
 use Rattle.gtfs_table.specs.declared.file.File.{File}
 use Rattle.gtfs_table.specs.declared.file.File.TheVariants as file
 use Rattle.gtfs_table.proofs.StoreFacts.{AllFilled}
@@ -15,8 +15,8 @@ use Rattle.gtfs_schema.specs.Columns.{Column, columns_of}
 use Rattle.gtfs_rows.specs.Cells.{Cell, are_cells, record_text}
 use Rattle.gtfs_rows.specs.Content.{Content}
 use Rattle.gtfs_rows.specs.RowCells.{cells_in}
-use Rattle.gtfs_rows.specs.Sound.{IsSound}
-use Rattle.gtfs_rows.specs.Written.{records_of_cells, written}
+use Rattle.gtfs_rows.specs.SoundContent.{IsSound}
+use Rattle.gtfs_rows.specs.WrittenContent.{records_of_cells, written}
 use Rattle.gtfs_rows.specs.FileTexts.{written_text}
 use Rattle.gtfs_rows.proofs.FileTexts.{text-of-cells, written-table}
 use Rattle.gtfs_writing.proofs.TextFacts.{has_columns}

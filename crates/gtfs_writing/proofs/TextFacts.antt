@@ -9,20 +9,20 @@ use Rattle.std.proofs.lemmas.List.{drop_all}
 use Rattle.std.proofs.lemmas.List.Folds.{list_any_more}
 use Rattle.csv.specs.Writing.{default_writer, comma, escaped, field_text, fields_text, is_blank, row_text}
 use Rattle.csv.specs.Machine.{line_feed}
-use Rattle.gtfs_table.specs.Reading.{kept_files}
+use Rattle.gtfs_table.specs.TablesRead.{kept_files}
 use Rattle.gtfs_table.specs.Tables.{Records}
-use Rattle.gtfs_table.specs.Written.{text_of_records}
+use Rattle.gtfs_table.specs.TableTexts.{text_of_records}
 use Rattle.gtfs_table.specs.declared.file.File.{File}
 use Rattle.gtfs_table.specs.declared.file.File.TheVariants as file
 use Rattle.gtfs_schema.specs.Columns.{Column, columns_of}
 use Rattle.gtfs_rows.specs.Cells.{Cell, are_cells, cell_text, record_text}
 use Rattle.gtfs_rows.specs.Content.{Content}
 use Rattle.gtfs_rows.specs.RowCells.{cells_in}
-use Rattle.gtfs_rows.specs.Sound.{IsSound}
-use Rattle.gtfs_rows.specs.Written.{records_of_cells}
+use Rattle.gtfs_rows.specs.SoundContent.{IsSound}
+use Rattle.gtfs_rows.specs.WrittenContent.{records_of_cells}
 use Rattle.gtfs_rows.specs.FileTexts.{is_longer, written_text}
 use Rattle.gtfs_rows.proofs.FileTexts.{text-of-cells}
-use Rattle.gtfs_writing.specs.Taking.{into_room, into_text, room_after, with_fields, with_row, with_rows}
+use Rattle.gtfs_writing.specs.TakenRecords.{into_room, into_text, room_after, with_fields, with_row, with_rows}
 
 -- ---- into a text
 

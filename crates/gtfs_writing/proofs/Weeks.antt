@@ -6,10 +6,10 @@ use Rattle.gtfs_field.specs.Canonical.{count_text, date_text}
 use Rattle.gtfs_days.specs.declared.week.Week.{Week}
 use Rattle.gtfs_table.specs.declared.file.File.TheVariants as file
 use Rattle.gtfs_schema.specs.Columns.{columns_of}
-use Rattle.gtfs_schema.specs.Values.{word, amount}
+use Rattle.gtfs_schema.specs.FieldValues.{word, amount}
 use Rattle.gtfs_rows.specs.Cells.{record_text}
 use Rattle.gtfs_rows.specs.RowCells.{flag, week_cells}
-use Rattle.gtfs_writing.specs.Taking.{Taking, with_fields, with_row}
+use Rattle.gtfs_writing.specs.TakenRecords.{Taking, with_fields, with_row}
 use Rattle.gtfs_writing.proofs.Taken.{with_fields-append}
 
 abbrev flag_text : Bool → List ℕ

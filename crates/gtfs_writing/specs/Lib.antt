@@ -1,3 +1,3 @@
-pub mod Bounds
-pub mod Plain
-pub mod Taking
+pub mod LongestTexts
+pub mod PlainStops
+pub mod TakenRecords

@@ -1,8 +1,8 @@
 //! Files that are short for sure: bounds of their texts that need no pass over their rows.
 ghost use Rattle.std.specs.Prelude.{◌≡◌, length, false, true};
-ghost use Rattle.gtfs_rows.specs.Views.{IsSoundParts, content_of_parts};
+ghost use Rattle.gtfs_rows.specs.RowsInMemory.{IsSoundParts, content_of_parts};
 ghost use Rattle.gtfs_table.specs.declared.file.File.TheVariants as file;
-ghost use Rattle.gtfs_writing.specs.Bounds.{longest};
+ghost use Rattle.gtfs_writing.specs.LongestTexts.{longest};
 ghost use Rattle.gtfs_rows.specs.FileTexts.{is_longer};
 
 use gtfs_field::Text;

@@ -4,7 +4,7 @@ ghost use Rattle.std.specs.Str.{IsAscii};
 ghost use Rattle.csv.specs.Machine.{line_feed};
 ghost use Rattle.csv.specs.Writing.{comma, default_writer, fields_text};
 ghost use Rattle.gtfs_field.specs.Canonical.{count_text, time_text};
-ghost use Rattle.gtfs_writing.specs.Taking.{choice_fields};
+ghost use Rattle.gtfs_writing.specs.TakenRecords.{choice_fields};
 
 use gtfs_rows::{DropOffType, PickupType, Timepoint};
 

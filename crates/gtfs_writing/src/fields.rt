@@ -4,10 +4,10 @@ ghost use Rattle.csv.specs.Writing.{comma, default_writer, needs_quotes};
 ghost use Rattle.gtfs_field.specs.Canonical.{colour_text, coordinate_text, count_text, date_text, time_text};
 ghost use Rattle.gtfs_field.specs.declared.coord.Axis.{Axis};
 ghost use Rattle.gtfs_schema.specs.Columns.{Kind, choice, coordinate, count, time};
-ghost use Rattle.gtfs_schema.specs.Values.{amount, word};
+ghost use Rattle.gtfs_schema.specs.FieldValues.{amount, word};
 ghost use Rattle.gtfs_rows.specs.Cells.{cell_text};
 ghost use Rattle.gtfs_rows.specs.RowCells.{value_of_number as numbered};
-ghost use Rattle.gtfs_writing.specs.Taking.{choice_fields, with_fields};
+ghost use Rattle.gtfs_writing.specs.TakenRecords.{choice_fields, with_fields};
 
 use crate::digits::{one_digit, short_time, two_digits};
 use crate::sink::Sink;

@@ -1,11 +1,11 @@
 ghost use Rattle.std.specs.Prelude.{◌≡◌, IfOk, Some, string_bytes};
 ghost use Rattle.std.specs.List.{list_any};
-ghost use Rattle.gtfs_rows.specs.Views.{IsSoundParts, content_of_parts};
-ghost use Rattle.gtfs_rows.specs.Written.{written};
+ghost use Rattle.gtfs_rows.specs.RowsInMemory.{IsSoundParts, content_of_parts};
+ghost use Rattle.gtfs_rows.specs.WrittenContent.{written};
 ghost use Rattle.gtfs_rows.specs.WrittenForm.{IsWrittenForm};
-ghost use Rattle.gtfs_table.specs.Reading.{kept_files};
+ghost use Rattle.gtfs_table.specs.TablesRead.{kept_files};
 ghost use Rattle.gtfs_table.specs.Tables.{table_of, table_of_bytes};
-ghost use Rattle.gtfs_table.specs.Written.{text_of_table};
+ghost use Rattle.gtfs_table.specs.TableTexts.{text_of_table};
 ghost use Rattle.gtfs_rows.specs.FileTexts.{is_longer};
 
 use crate::bounds::is_surely_within;

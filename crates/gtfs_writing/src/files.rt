@@ -1,10 +1,10 @@
 ghost use Rattle.std.specs.Prelude.{◌≡◌, ◌++◌, IfOk, OnOk};
 ghost use Rattle.gtfs_rows.specs.RowCells.{cells_in};
-ghost use Rattle.gtfs_rows.specs.Views.{IsSoundParts, content_of_parts};
-ghost use Rattle.gtfs_rows.specs.Written.{records_of_cells, written};
+ghost use Rattle.gtfs_rows.specs.RowsInMemory.{IsSoundParts, content_of_parts};
+ghost use Rattle.gtfs_rows.specs.WrittenContent.{records_of_cells, written};
 ghost use Rattle.gtfs_rows.specs.WrittenForm.{IsWrittenForm};
 ghost use Rattle.gtfs_table.specs.Tables.{empty_dataset, of_records, table_of, table_records, with_table};
-ghost use Rattle.gtfs_writing.specs.Taking.{rows_in, with_rows};
+ghost use Rattle.gtfs_writing.specs.TakenRecords.{rows_in, with_rows};
 
 use crate::agencies::write_agencies;
 use crate::calendar::write_weeks;

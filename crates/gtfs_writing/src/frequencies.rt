@@ -2,9 +2,9 @@ ghost use Rattle.std.specs.Prelude.{◌≡◌, map, OnOk};
 ghost use Rattle.gtfs_schema.specs.Columns.{columns_of};
 ghost use Rattle.gtfs_rows.specs.Cells.{record_text};
 ghost use Rattle.gtfs_rows.specs.RowCells.{frequency_cells};
-ghost use Rattle.gtfs_rows.specs.Views.{IsSoundParts, content_of_parts, frequency_of};
+ghost use Rattle.gtfs_rows.specs.RowsInMemory.{IsSoundParts, content_of_parts, frequency_of};
 ghost use Rattle.gtfs_table.specs.declared.file.File.TheVariants as file;
-ghost use Rattle.gtfs_writing.specs.Taking.{rows_in, with_row, with_rows};
+ghost use Rattle.gtfs_writing.specs.TakenRecords.{rows_in, with_row, with_rows};
 
 use crate::fields::Fields;
 use crate::sink::Sink;

@@ -1,7 +1,7 @@
 ghost use Rattle.std.specs.Prelude.{◌≡◌, map, OnOk};
 ghost use Rattle.gtfs_schema.specs.Columns.{columns_of};
 ghost use Rattle.gtfs_schema.specs.steps.ColumnView.{column_of};
-ghost use Rattle.gtfs_writing.specs.Taking.{with_fields, with_row};
+ghost use Rattle.gtfs_writing.specs.TakenRecords.{with_fields, with_row};
 
 use crate::fields::Fields;
 use crate::sink::Sink;

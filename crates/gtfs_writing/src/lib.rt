@@ -8,9 +8,9 @@
 //! - [`has_longer_file`] tells whether the text of some file is longer than a limit,
 //!   and makes none.
 //!
-//! What the written form of a content is stands in `specs/Written.antt` of `gtfs_rows`, and what is
-//! promised of it in `specs/WrittenForm.antt` there. `specs/Taking.antt` says how rows are taken,
-//! field by field, into a table or a text.
+//! What the written form of a content is stands in `specs/WrittenContent.antt` of `gtfs_rows`, and
+//! what is promised of it in `specs/WrittenForm.antt` there. `specs/TakenRecords.antt` says how rows
+//! are taken, field by field, into a table or a text.
 #![tactic(auto)]
 
 mod agencies;

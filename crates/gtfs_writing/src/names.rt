@@ -1,9 +1,9 @@
 // The ids that rows name by their numbers, and headsigns.
 ghost use Rattle.std.specs.Prelude.{◌≡◌, ◌<◌, length, option_map, true};
 ghost use Rattle.gtfs_schema.specs.Columns.{Kind};
-ghost use Rattle.gtfs_schema.specs.Values.{word};
+ghost use Rattle.gtfs_schema.specs.FieldValues.{word};
 ghost use Rattle.gtfs_rows.specs.Cells.{cell_text};
-ghost use Rattle.gtfs_rows.specs.Views.{agency_ids, is_number_within, names_route, names_stop, names_trip, route_ids, service_ids, stop_ids, text_of_number, trip_ids};
+ghost use Rattle.gtfs_rows.specs.RowsInMemory.{agency_ids, is_number_within, names_route, names_stop, names_trip, route_ids, service_ids, stop_ids, text_of_number, trip_ids};
 
 use gtfs_rows::{
     AgencyNo, HeadsignNo, OptionalHeadsign, Parts, RouteNo, ServiceNo, StopNo, TripNo,

@@ -1,6 +1,6 @@
 ghost use Rattle.std.specs.Prelude.{◌≡◌, length, Some, is_none};
 ghost use Rattle.csv.specs.Writing.{default_writer, escaped, field_text};
-ghost use Rattle.gtfs_writing.specs.Taking.{into_room, room_after};
+ghost use Rattle.gtfs_writing.specs.TakenRecords.{into_room, room_after};
 
 use crate::quoting::is_quoted;
 use crate::sink::Sink;

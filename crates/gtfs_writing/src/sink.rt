@@ -1,7 +1,7 @@
 ghost use Rattle.std.specs.Prelude.{◌≡◌, ◌∷◌, drop, OnOk, false};
 ghost use Rattle.std.specs.Str.{IsAscii};
 ghost use Rattle.csv.specs.Writing.{comma, default_writer, needs_quotes};
-ghost use Rattle.gtfs_writing.specs.Taking.{Taking, choice_fields, with_fields};
+ghost use Rattle.gtfs_writing.specs.TakenRecords.{Taking, choice_fields, with_fields};
 
 use crate::digits::one_digit;
 use gtfs_field::OutOfMemory;

@@ -1,8 +1,8 @@
 //! The ids of stops, near each other in memory.
 ghost use Rattle.std.specs.Prelude.{◌≡◌, ◌<◌, IfOk, length, map};
 ghost use Rattle.std.specs.List.{list_all};
-ghost use Rattle.gtfs_rows.specs.Views.{text_of_number};
-ghost use Rattle.gtfs_writing.specs.Plain.{AreIdsOf, is_plain_stop};
+ghost use Rattle.gtfs_rows.specs.RowsInMemory.{text_of_number};
+ghost use Rattle.gtfs_writing.specs.PlainStops.{AreIdsOf, is_plain_stop};
 
 use crate::quoting::is_quoted;
 use gtfs_field::{OutOfMemory, Text};

@@ -4,10 +4,10 @@ ghost use Rattle.csv.specs.Writing.{default_writer, needs_quotes};
 ghost use Rattle.gtfs_schema.specs.Columns.{columns_of};
 ghost use Rattle.gtfs_rows.specs.Cells.{record_text};
 ghost use Rattle.gtfs_rows.specs.RowCells.{stop_time_cells};
-ghost use Rattle.gtfs_rows.specs.Views.{IsSoundParts, content_of_parts, stop_row_of, stop_time_names_rows};
+ghost use Rattle.gtfs_rows.specs.RowsInMemory.{IsSoundParts, content_of_parts, stop_row_of, stop_time_names_rows};
 ghost use Rattle.gtfs_table.specs.declared.file.File.TheVariants as file;
-ghost use Rattle.gtfs_writing.specs.Plain.{AreIdsOf};
-ghost use Rattle.gtfs_writing.specs.Taking.{rows_in, with_row, with_rows};
+ghost use Rattle.gtfs_writing.specs.PlainStops.{AreIdsOf};
+ghost use Rattle.gtfs_writing.specs.TakenRecords.{rows_in, with_row, with_rows};
 
 use crate::fields::Fields;
 use crate::names::headsign_if_any;

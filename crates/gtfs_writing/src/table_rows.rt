@@ -1,6 +1,6 @@
 ghost use Rattle.std.specs.Prelude.{◌≡◌};
 ghost use Rattle.gtfs_table.specs.Tables.{empty_dataset};
-ghost use Rattle.gtfs_writing.specs.Taking.{into_table};
+ghost use Rattle.gtfs_writing.specs.TakenRecords.{into_table};
 
 use crate::digits::as_text;
 use crate::sink::Sink;

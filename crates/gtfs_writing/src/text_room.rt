@@ -1,8 +1,8 @@
 //! How much room the text of a file is likely to take,
 //! so that it is made at once and the text need not grow.
 ghost use Rattle.std.specs.Prelude.{◌≡◌, [], IfOk};
-ghost use Rattle.gtfs_rows.specs.Views.{IsSoundParts};
-ghost use Rattle.gtfs_writing.specs.Plain.{AreIdsOf};
+ghost use Rattle.gtfs_rows.specs.RowsInMemory.{IsSoundParts};
+ghost use Rattle.gtfs_writing.specs.PlainStops.{AreIdsOf};
 
 use crate::fields::Fields;
 use crate::room_rows::RoomRows;

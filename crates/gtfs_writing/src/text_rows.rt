@@ -1,7 +1,7 @@
 ghost use Rattle.std.specs.Prelude.{◌≡◌, ◌++◌, [], OnOk, encode_utf8, string_bytes};
 ghost use Rattle.std.specs.Str.{IsUtf8};
 ghost use Rattle.csv.specs.Writing.{default_writer, escaped, field_text, quoted};
-ghost use Rattle.gtfs_writing.specs.Taking.{into_text};
+ghost use Rattle.gtfs_writing.specs.TakenRecords.{into_text};
 
 use crate::digits::{as_text, choices, choices_with_timepoint};
 use crate::quoting::is_quoted;

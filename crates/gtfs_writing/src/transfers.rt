@@ -1,11 +1,11 @@
 ghost use Rattle.std.specs.Prelude.{◌≡◌, true, option_map, OnOk};
 ghost use Rattle.gtfs_schema.specs.Columns.{columns_of, id};
-ghost use Rattle.gtfs_schema.specs.Values.{word};
+ghost use Rattle.gtfs_schema.specs.FieldValues.{word};
 ghost use Rattle.gtfs_rows.specs.Cells.{cell_text, record_text};
 ghost use Rattle.gtfs_rows.specs.RowCells.{transfer_cells};
-ghost use Rattle.gtfs_rows.specs.Views.{IsSoundParts, content_of_parts, names_route, names_stop, names_trip, transfer_names_rows, transfer_of};
+ghost use Rattle.gtfs_rows.specs.RowsInMemory.{IsSoundParts, content_of_parts, names_route, names_stop, names_trip, transfer_names_rows, transfer_of};
 ghost use Rattle.gtfs_table.specs.declared.file.File.TheVariants as file;
-ghost use Rattle.gtfs_writing.specs.Taking.{rows_in, with_row, with_rows};
+ghost use Rattle.gtfs_writing.specs.TakenRecords.{rows_in, with_row, with_rows};
 
 use crate::fields::Fields;
 use crate::names::{route_id_if_any, stop_id_if_any, trip_id_if_any};

@@ -6,8 +6,9 @@ use Rattle.std.specs.Prelude.{◌≡◌, ◌≤◌, ◌*◌, ◌∷◌, length, 
 use Rattle.gtfs_board.specs.Board.{StepCount, origin_distance, reach, width}
 use Rattle.std.specs.List.{find, filter_map, range_with_len, fold}
 use Rattle.std.specs.Int.{int_min}
-use Rattle.gtfs_board.specs.upcoming.Order.{In, Each, tally, same}
-use Rattle.gtfs_board.specs.upcoming.Lanes.{Events, AreAll, AreHeads, AreLanes, IsStopped, rest_of}
+use Rattle.gtfs_runs.specs.Tallies.{tally}
+use Rattle.gtfs_board.specs.upcoming.QueueOrder.{In, Each, same}
+use Rattle.gtfs_board.specs.upcoming.OpenedLanes.{Events, AreAll, AreHeads, AreLanes, IsStopped, rest_of}
 use Rattle.std.specs.declared.cmp.Ordering.{Ordering}
 use Rattle.std.specs.Ordering.{nat_cmp, int_cmp, is_lt, on, then_cmp, flip_args}
 use Rattle.gtfs_board.specs.declared.upcoming.candidate.Candidate.{Candidate}
@@ -112,9 +113,9 @@ pub record AreGathered (events : Events Candidate) (floor : Candidate) (end : �
   pub within : Each (IsWithin mark) (others ++ fresh)
 
 -- where a board stands: at the first that waits, or at the end
-abbrev pub position : ℤ → Option Candidate → ℤ
-position end None = end
-position end (Some c) = c.instant
+abbrev pub instant_or_end : ℤ → Option Candidate → ℤ
+instant_or_end end None = end
+instant_or_end end (Some c) = c.instant
 
 -- no other comes before the first, and there is no other without a first
 abbrev pub IsFirst : Option Candidate → List Candidate → Type 0
@@ -138,8 +139,8 @@ IsAside floor day count = (floor.day <ℤ day) ⊎ (count ≤ floor.lane)
 pub record IsWaiting (events : Events Candidate) (end last : ℤ) (floor : Candidate) (first : Option Candidate) (others : List Candidate) (day : ℤ) : Type 0 where
   pub heads : AreHeads candidate_lt day_of lane_of events day (candidate_lt floor) (option_to_list first ++ others)
   pub least : IsFirst first others
-  pub within : Each (IsWithin (position end first)) (option_to_list first ++ others)
-  pub stopped : IsStopped last day (position end first)
+  pub within : Each (IsWithin (instant_or_end end first)) (option_to_list first ++ others)
+  pub stopped : IsStopped last day (instant_or_end end first)
 
 abbrev pub head_of : {X : Type 0} → List X → Option X
 head_of [] = None
@@ -156,14 +157,14 @@ pub record UpcomingValue : Type 0 where
   pub steps : ℕ
 
 -- what waits is left, the first of the rest is the first of the queue, and none waits only where nothing is left; the queue is within its bound
-pub record IsQueued (v : UpcomingValue) : Type 0 where
+pub record AreQueued (v : UpcomingValue) : Type 0 where
   pub within : Each (λ c. In c v.rest) v.queue
   pub same_first : head_of v.queue ≡ head_of v.rest
   pub bounded : length v.queue ≤ v.lanes * width v.latest
 
 -- how many steps were made, and how many of them for days: a lane for each day that may have been opened
 abbrev pub steps_so_far : UpcomingValue → StepCount
-steps_so_far v = record { made = v.steps; for_days = v.lanes * reach v.latest v.start (position v.end (head_of v.rest)) }
+steps_so_far v = record { made = v.steps; for_days = v.lanes * reach v.latest v.start (instant_or_end v.end (head_of v.rest)) }
 
 -- with what they were opened
 pub record HasSettings (count most : ℕ) (from to : ℤ) (v : UpcomingValue) : Type 0 where
@@ -172,8 +173,8 @@ pub record HasSettings (count most : ℕ) (from to : ℤ) (v : UpcomingValue) : 
   pub start : v.start ≡ from
   pub end : v.end ≡ to
 
-abbrev pub SameSettings : UpcomingValue → UpcomingValue → Type 0
-SameSettings v w = HasSettings v.lanes v.latest v.start v.end w
+abbrev pub KeepsSettings : UpcomingValue → UpcomingValue → Type 0
+KeepsSettings v w = HasSettings v.lanes v.latest v.start v.end w
 
 -- the first of the rest is taken away; there is none exactly where nothing is left
 abbrev pub TakesFirst : UpcomingValue → UpcomingValue → Option Candidate → Type 0

@@ -1,7 +1,7 @@
 ghost use Rattle.std.specs.Prelude.{◌≡◌, ◌≤◌, ◌∷◌, false, MatchOption};
 ghost use Rattle.gtfs_board.specs.KeyTexts.{has_key_shape, plain_up_to};
-ghost use Rattle.gtfs_board.specs.Parts.{ArePartsOf, IsCutAtFirst, IsCutAtLast, LacksAt, LacksSlash};
-ghost use Rattle.gtfs_board.specs.Lent.{ReadsAs};
+ghost use Rattle.gtfs_board.specs.KeyParts.{ArePartsOf, IsCutAtFirst, IsCutAtLast, LacksAt, LacksSlash};
+ghost use Rattle.gtfs_board.specs.LentKeys.{ReadsAs};
 
 use crate::key::Key;
 use gtfs_field::{FieldFault, read_count, read_date, read_instant};

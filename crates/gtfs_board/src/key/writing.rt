@@ -4,7 +4,7 @@ ghost use Rattle.gtfs_field.specs.Calendar.{date_of_day};
 ghost use Rattle.gtfs_field.specs.Canonical.{date_text, digits_of_date};
 ghost use Rattle.gtfs_rows.specs.Key.{IsInRange};
 ghost use Rattle.gtfs_board.specs.KeyTexts.{key_text, key_of};
-ghost use Rattle.gtfs_board.specs.Lent.{plain_key};
+ghost use Rattle.gtfs_board.specs.LentKeys.{plain_key};
 
 use crate::key::Key;
 use crate::pieces::{push_ascii, write_two_digits};

@@ -2,7 +2,7 @@ ghost use Rattle.std.specs.Prelude.{◌≡◌, ◌++◌, ◌∷◌, [], ◌<◌,
 ghost use Rattle.std.specs.String.{string_capacity};
 ghost use Rattle.std.specs.Str.{IsAscii};
 ghost use Rattle.gtfs_field.specs.Digits.{wide};
-ghost use Rattle.gtfs_board.specs.Lines.{clock_text};
+ghost use Rattle.gtfs_board.specs.BoardLines.{clock_text};
 
 use crate::pieces::{push_ascii, write_two_digits};
 use gtfs_days::Civil;

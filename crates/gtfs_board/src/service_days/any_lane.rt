@@ -1,5 +1,5 @@
 ghost use Rattle.std.specs.Prelude.{◌≡◌, ◌≤◌, ◌+◌, IsTrue, find, length};
-ghost use Rattle.gtfs_runs.specs.Order.{is_above_moment, is_later};
+ghost use Rattle.gtfs_runs.specs.EventOrder.{is_above_moment, is_later};
 ghost use Rattle.gtfs_board.specs.LaneDays.{any_value};
 
 use gtfs_rows::ServiceNo;

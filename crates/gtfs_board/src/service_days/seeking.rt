@@ -1,5 +1,5 @@
 ghost use Rattle.std.specs.Prelude.{◌≡◌, ◌<◌, ◌^◌, ◌⊎◌, ◌<ℤ◌, ◌≤ℤ◌, ◌-ℤ◌, pos, ℕ};
-ghost use Rattle.gtfs_runs.specs.Order.{is_above_moment};
+ghost use Rattle.gtfs_runs.specs.EventOrder.{is_above_moment};
 ghost use Rattle.gtfs_runs.specs.declared.event.Event.{Event};
 ghost use Rattle.gtfs_board.specs.LaneDays.{departing};
 ghost use Rattle.gtfs_board.specs.upcoming.Candidates.{candidate_lt};

@@ -1,14 +1,14 @@
 //! The times of a sheet run by run: the stop times of a trip are filled as a whole.
 ghost use Rattle.std.specs.Prelude.{◌≡◌, ◌<◌, ◌≤◌, All, IfOk, List, length, map, option_and_then};
 ghost use Rattle.std.specs.List.{range_with_len};
-ghost use Rattle.gtfs_rows.specs.Views.{content_of_parts};
-ghost use Rattle.gtfs_rows.specs.Views.{trip_of};
+ghost use Rattle.gtfs_rows.specs.RowsInMemory.{content_of_parts};
+ghost use Rattle.gtfs_rows.specs.RowsInMemory.{trip_of};
 ghost use Rattle.gtfs_rows.specs.declared.frequency.Frequency.{Frequency as PeriodRow};
 ghost use Rattle.gtfs_rows.specs.declared.parts.Parts.{Parts};
 ghost use Rattle.gtfs_rows.specs.declared.trip.Trip.{Trip};
 ghost use Rattle.gtfs_times.specs.TimedRows.{timed_parts};
 ghost use Rattle.gtfs_times.specs.declared.times.Times.TheVariants.{Interpolated};
-ghost use Rattle.gtfs_board.specs.SheetSteps.{IsShownAlong, KeepTimes, column_times, times_of_column};
+ghost use Rattle.gtfs_board.specs.TimetableColumns.{IsShownAlong, KeepTimes, column_times, times_of_column};
 ghost use Rattle.gtfs_board.specs.Timetable.{row_at, time_passed};
 
 use crate::sheet::columns::RunColumn;

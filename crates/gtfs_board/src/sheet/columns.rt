@@ -3,12 +3,12 @@ ghost use Rattle.std.specs.Prelude.{◌≡◌, ◌<◌, ◌+◌, ◌==◌, ◌&&
 ghost use Rattle.std.specs.List.Sorted.{IsSorted};
 ghost use Rattle.gtfs_rows.specs.Trips.{ArePeriods};
 ghost use Rattle.gtfs_stop_times.specs.RowTimes.{left_at};
-ghost use Rattle.gtfs_rows.specs.Views.{frequency_of, trip_of};
+ghost use Rattle.gtfs_rows.specs.RowsInMemory.{frequency_of, trip_of};
 ghost use Rattle.gtfs_rows.specs.declared.parts.Parts.{Parts};
 ghost use Rattle.gtfs_rows.specs.declared.trip.Trip.{Trip};
-ghost use Rattle.gtfs_runs.specs.Counts.{tally};
+ghost use Rattle.gtfs_runs.specs.Tallies.{tally};
 ghost use Rattle.gtfs_rows.specs.Runs.{is_run, starts_run};
-ghost use Rattle.gtfs_board.specs.SheetSteps.{HasRow, column_cmp, is_column_of, is_run_on, is_same_column};
+ghost use Rattle.gtfs_board.specs.TimetableColumns.{HasRow, column_cmp, is_column_of, is_run_on, is_same_column};
 ghost use Rattle.gtfs_board.specs.declared.sheet.columns.RunColumn.{RunColumn as ColumnValue};
 
 use gtfs_field::{Clock, Day, OutOfMemory};

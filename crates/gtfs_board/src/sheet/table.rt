@@ -1,10 +1,10 @@
 //! The timetable of a route: a sheet for each of its patterns that has a run on the day.
 ghost use Rattle.std.specs.Prelude.{◌≡◌, ◌≢◌, ◌<◌, ◌++◌, ◌↔◌, All, IfErr, IfOk, IsErrOf, OnOk, false, length, map};
 ghost use Rattle.std.specs.List.{filter, flat_map};
-ghost use Rattle.gtfs_rows.specs.Views.{content_of_parts};
-ghost use Rattle.gtfs_rows.specs.Views.{route_ids, stop_ids, text_of_number};
+ghost use Rattle.gtfs_rows.specs.RowsInMemory.{content_of_parts};
+ghost use Rattle.gtfs_rows.specs.RowsInMemory.{route_ids, stop_ids, text_of_number};
 ghost use Rattle.gtfs_board.specs.LentSheets.{plain_sheet};
-ghost use Rattle.gtfs_board.specs.SheetSteps.{IsPattern, IsShownAlong, goes, named_column, sheet_of_columns, sheets_along};
+ghost use Rattle.gtfs_board.specs.TimetableColumns.{IsPattern, IsShownAlong, goes, named_column, sheet_of_columns, sheets_along};
 ghost use Rattle.gtfs_board.specs.Timetable.{is_route, sheets};
 ghost use Rattle.gtfs_times.specs.Filling.{timed};
 ghost use Rattle.gtfs_times.specs.TimedRows.{timed_parts};

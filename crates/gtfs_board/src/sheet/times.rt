@@ -1,14 +1,14 @@
 //! The times of a sheet: when each run passes each stop time of its trip.
 ghost use Rattle.std.specs.Prelude.{◌≡◌, ◌<◌, ◌≤◌, ◌+◌, All, IfOk, List, true, is_some, length, map, option_and_then, slice_index_or, unwrap_or};
-ghost use Rattle.gtfs_rows.specs.Views.{content_of_parts};
+ghost use Rattle.gtfs_rows.specs.RowsInMemory.{content_of_parts};
 ghost use Rattle.gtfs_stop_times.specs.RowTimes.{left_at};
-ghost use Rattle.gtfs_rows.specs.Views.{stop_row_of, trip_of};
+ghost use Rattle.gtfs_rows.specs.RowsInMemory.{stop_row_of, trip_of};
 ghost use Rattle.gtfs_rows.specs.declared.frequency.Frequency.{Frequency as PeriodRow};
 ghost use Rattle.gtfs_rows.specs.declared.parts.Parts.{Parts};
 ghost use Rattle.gtfs_stop_times.specs.declared.stop_row.StopRow.{StopRow as StopTime};
 ghost use Rattle.gtfs_rows.specs.declared.trip.Trip.{Trip};
 ghost use Rattle.gtfs_rows.specs.Runs.{passes_at};
-ghost use Rattle.gtfs_board.specs.SheetSteps.{IsShownAlong, column_times, time_of_column};
+ghost use Rattle.gtfs_board.specs.TimetableColumns.{IsShownAlong, column_times, time_of_column};
 ghost use Rattle.gtfs_board.specs.Timetable.{row_at, time_passed};
 ghost use Rattle.gtfs_times.specs.TimedRows.{timed_parts};
 

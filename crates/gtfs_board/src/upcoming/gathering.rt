@@ -3,9 +3,9 @@ ghost use Rattle.std.specs.Option.{option_to_list};
 ghost use Rattle.gtfs_days.specs.Service.{first_service_day, last_service_day, service_days};
 ghost use Rattle.gtfs_days.specs.Zone.{zone_origin};
 ghost use Rattle.gtfs_board.specs.Board.{low_mark, origin_distance};
-ghost use Rattle.gtfs_board.specs.Days.{count_of, events_of};
-ghost use Rattle.gtfs_board.specs.upcoming.Order.{Each};
-ghost use Rattle.gtfs_board.specs.upcoming.Lanes.{IsFrom, IsStopped, AreStepsFew};
+ghost use Rattle.gtfs_board.specs.UpcomingDays.{count_of, events_of};
+ghost use Rattle.gtfs_board.specs.upcoming.QueueOrder.{Each};
+ghost use Rattle.gtfs_board.specs.upcoming.OpenedLanes.{IsFrom, IsStopped, AreStepsFew};
 ghost use Rattle.gtfs_board.specs.upcoming.Candidates.{AreGathered, AreHeadsAbove, AreWithinLeast, IsAside, heads_on, least_from, with_head};
 
 use crate::service_days::Days;

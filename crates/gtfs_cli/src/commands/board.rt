@@ -1,11 +1,11 @@
 ghost use Rattle.std.specs.Prelude.{◌≡◌, IfErr, IfOk};
-ghost use Rattle.gtfs_rows.specs.Views.{content_of_parts};
-ghost use Rattle.gtfs_board.specs.Page.{IsCutShort, IsPage, IsStopped};
+ghost use Rattle.gtfs_rows.specs.RowsInMemory.{content_of_parts};
+ghost use Rattle.gtfs_board.specs.BoardPage.{IsCutShort, IsPage, IsStopped};
 ghost use Rattle.gtfs_commands.specs.Words.{texts_of};
 ghost use Rattle.gtfs_cli.specs.BoardCommand.{board_plan, IsOpeningCause, IsTextOf, ListsBoard, PrintsPage};
 ghost use Rattle.gtfs_cli.specs.LentBoardRequests.{board_request_of, AreBoardValues};
 ghost use Rattle.gtfs_cli.specs.CommandPlan.{answer_of, Ends};
-ghost use Rattle.gtfs_cli.specs.Sending.{or_none, PrintsText};
+ghost use Rattle.gtfs_cli.specs.SentText.{or_none, PrintsText};
 
 mod options;
 

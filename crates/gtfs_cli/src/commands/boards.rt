@@ -1,7 +1,7 @@
 ghost use Rattle.std.specs.Prelude.{◌≡◌, map, None, string_bytes, IfOk};
 ghost use Rattle.gtfs_days.specs.Zone.{zone_origin};
 ghost use Rattle.gtfs_rows.specs.Content.{Content};
-ghost use Rattle.gtfs_rows.specs.Views.{content_of_parts};
+ghost use Rattle.gtfs_rows.specs.RowsInMemory.{content_of_parts};
 ghost use Rattle.gtfs_commands.specs.Words.{boards_texts_of};
 ghost use Rattle.gtfs_cli.specs.LentBoardRequests.{board_request_of, request_texts_of, stop_request_of};
 ghost use Rattle.gtfs_cli.specs.BoardCommand.{ListsBoard};
@@ -10,7 +10,7 @@ ghost use Rattle.gtfs_cli.specs.SharedOptions.{times_of};
 ghost use Rattle.gtfs_cli.specs.CommandPlan.{answer_of, Ends};
 ghost use Rattle.gtfs_cli.specs.BoardOptions.{IsSound};
 ghost use Rattle.gtfs_cli.specs.BoardsRequests.{fault_in, request_heading, numbered_from, requests_in, requests_of};
-ghost use Rattle.gtfs_cli.specs.Sending.{or_none, PrintsText};
+ghost use Rattle.gtfs_cli.specs.SentText.{or_none, PrintsText};
 
 mod opening;
 mod request_fault;

@@ -2,9 +2,9 @@
 ghost use Rattle.std.specs.Prelude.{◌≡◌, ◌≤◌, ◌≢◌, ◌&&◌, ◌∷◌, [], not, true, false, if◌then◌else◌, map, count_by, length, nat_lt, option_map, None, Some, IfOk, IfErr};
 ghost use Rattle.gtfs_schema.specs.Codes.{is_error};
 ghost use Rattle.gtfs_schema.specs.Problems.{passes, IsReport};
-ghost use Rattle.gtfs_schema.specs.View.{problem_of};
-ghost use Rattle.gtfs_rows.specs.Reading.{content_of};
-ghost use Rattle.gtfs_rows.specs.Views.{content_of_parts};
+ghost use Rattle.gtfs_schema.specs.ProblemTexts.{problem_of};
+ghost use Rattle.gtfs_rows.specs.ContentRead.{content_of};
+ghost use Rattle.gtfs_rows.specs.RowsInMemory.{content_of_parts};
 ghost use Rattle.gtfs_commands.specs.Words.{check_texts_of};
 ghost use Rattle.gtfs_cli.specs.AdviceLines.{advised_text};
 ghost use Rattle.gtfs_cli.specs.CheckLines.{counts_text, problem_lines};
@@ -14,7 +14,7 @@ ghost use Rattle.gtfs_cli.specs.RefusalOrder.{IsFirstBad};
 ghost use Rattle.gtfs_cli.specs.RestOfCheck.{lines_after, IsBegun};
 ghost use Rattle.gtfs_cli.specs.SharedOptions.{day_if_given};
 ghost use Rattle.gtfs_cli.specs.CommandPlan.{Ends};
-ghost use Rattle.gtfs_cli.specs.Sending.{AreSent};
+ghost use Rattle.gtfs_cli.specs.SentText.{AreSent};
 
 mod kind_counts;
 mod printed_advice;

@@ -1,6 +1,6 @@
 ghost use Rattle.std.specs.Prelude.{◌<◌, ℕ, length, Option, IfOk, IfErr};
 ghost use Rattle.gtfs_devices.specs.Folder.{CountsFault, Store};
-ghost use Rattle.gtfs_table.specs.Reading.{RefusesDataset};
+ghost use Rattle.gtfs_table.specs.TablesRead.{RefusesDataset};
 ghost use Rattle.gtfs_cli.specs.ReadingCauses.{IsFileCause, IsPathCause, IsTablesCause};
 ghost use Rattle.gtfs_cli.specs.FilesInFolders.{HoldsTables};
 ghost use Rattle.gtfs_cli.specs.FolderCalls.{Reads};

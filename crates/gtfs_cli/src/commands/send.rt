@@ -1,5 +1,5 @@
 ghost use Rattle.std.specs.Prelude.{◌≡◌, IfErr};
-ghost use Rattle.gtfs_cli.specs.Sending.{IsSent};
+ghost use Rattle.gtfs_cli.specs.SentText.{IsSent};
 ghost use Rattle.gtfs_cli.specs.declared.commands.refusal.Refusal.TheVariants.{OutputFailed as output_failed};
 
 use crate::commands::refusal::Refusal;

@@ -1,6 +1,6 @@
 ghost use Rattle.std.specs.Prelude.{◌≡◌};
 ghost use Rattle.gtfs_commands.specs.Words.{serve_texts_of};
-ghost use Rattle.gtfs_rows.specs.Views.{content_of_parts};
+ghost use Rattle.gtfs_rows.specs.RowsInMemory.{content_of_parts};
 ghost use Rattle.gtfs_cli.specs.CommandPlan.{answer_of, Ends};
 ghost use Rattle.gtfs_cli.specs.DevicesSeen.{Talk};
 ghost use Rattle.gtfs_cli.specs.ServeCommand.{serve_plan, Converses};

@@ -1,13 +1,13 @@
 ghost use Rattle.std.specs.Prelude.{◌≡◌, map, true, IfErr, IfOk, IsErrOf, OnOk};
 ghost use Rattle.std.specs.Io.KnownBytes.{Keeps};
 ghost use Rattle.std.specs.List.{flat_map};
-ghost use Rattle.gtfs_rows.specs.Views.{content_of_parts};
+ghost use Rattle.gtfs_rows.specs.RowsInMemory.{content_of_parts};
 ghost use Rattle.gtfs_times.specs.Filling.{timed};
 ghost use Rattle.gtfs_board.specs.LentSheets.{plain_sheet};
 ghost use Rattle.gtfs_board.specs.Timetable.{is_route, sheet_text, sheets};
 ghost use Rattle.gtfs_commands.specs.Words.{timetable_texts_of};
 ghost use Rattle.gtfs_cli.specs.CommandPlan.{answer_of, Ends};
-ghost use Rattle.gtfs_cli.specs.Sending.{AreFirst, Begins, IsSent, PrintsText, SendsSome};
+ghost use Rattle.gtfs_cli.specs.SentText.{AreFirst, Begins, IsSent, PrintsText, SendsSome};
 ghost use Rattle.gtfs_cli.specs.TimetableCommand.{timetable_plan, timetable_request_of, AreFirstSheets, AreSheets, IsSheetsCause};
 ghost use Rattle.gtfs_cli.specs.declared.commands.refusal.Refusal.TheVariants.{OutOfMemory as no_memory};
 

@@ -1,6 +1,6 @@
 ghost use Rattle.std.specs.Prelude.{◌≡◌, ◌++◌, ◌≤◌, ◌+◌, ◌-◌, ◌^◌, length, min, string_bytes, string_len, OnOk, OnErr};
 ghost use Rattle.std.specs.String.{string_capacity};
-ghost use Rattle.gtfs_merge.specs.Report.{joined_line, kind_name, renamed_line};
+ghost use Rattle.gtfs_merge.specs.MergeReport.{joined_line, kind_name, renamed_line};
 ghost use Rattle.gtfs_cli.specs.MergeReport.{line_room, line_text, near_text, renamed_len};
 
 use crate::report::line_pieces::push_piece;

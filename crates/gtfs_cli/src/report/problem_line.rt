@@ -1,5 +1,5 @@
 ghost use Rattle.std.specs.Prelude.{◌≡◌, ◌++◌, option_map, string_bytes, OnOk};
-ghost use Rattle.gtfs_schema.specs.View.{problem_of};
+ghost use Rattle.gtfs_schema.specs.ProblemTexts.{problem_of};
 ghost use Rattle.gtfs_cli.specs.CheckLines.{count_shown, line_with, values_shown};
 
 use crate::report::problem_start::push_problem;

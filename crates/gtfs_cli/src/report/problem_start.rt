@@ -1,8 +1,8 @@
 ghost use Rattle.std.specs.Prelude.{◌≡◌, ◌++◌, ◌≤◌, ◌+◌, ◌-◌, ◌^◌, length, min, string_bytes, string_len, OnOk, OnErr};
 ghost use Rattle.std.specs.String.{string_capacity};
 ghost use Rattle.gtfs_rules.specs.Report.{column_shown, problem_line};
-ghost use Rattle.gtfs_schema.specs.Values.{plain};
-ghost use Rattle.gtfs_schema.specs.View.{problem_of};
+ghost use Rattle.gtfs_schema.specs.FieldValues.{plain};
+ghost use Rattle.gtfs_schema.specs.ProblemTexts.{problem_of};
 ghost use Rattle.gtfs_cli.specs.CheckLines.{names_len, without_end};
 
 use crate::report::line_pieces::push_piece;

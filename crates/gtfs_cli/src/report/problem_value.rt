@@ -1,5 +1,5 @@
 ghost use Rattle.std.specs.Prelude.{◌≡◌, ◌++◌, if◌then◌else◌, chars, encode_utf8, encode_utf8_all, string_bytes, take, OnOk};
-ghost use Rattle.gtfs_schema.specs.Values.{plain};
+ghost use Rattle.gtfs_schema.specs.FieldValues.{plain};
 ghost use Rattle.gtfs_table.specs.Blanks.{is_control};
 ghost use Rattle.gtfs_cli.specs.CheckLines.{shown_value, value_field};
 

@@ -1,6 +1,6 @@
 ghost use Rattle.std.specs.Prelude.{◌≡◌};
-ghost use Rattle.gtfs_rows.specs.Views.{agency_of};
-ghost use Rattle.gtfs_merge.specs.Same.{same_agency};
+ghost use Rattle.gtfs_rows.specs.RowsInMemory.{agency_of};
+ghost use Rattle.gtfs_merge.specs.SameRows.{same_agency};
 
 use crate::comparing::values::is_same_text;
 use gtfs_rows::Agency;

@@ -1,6 +1,6 @@
 ghost use Rattle.std.specs.Prelude.{◌≡◌};
-ghost use Rattle.gtfs_rows.specs.Views.{frequency_of};
-ghost use Rattle.gtfs_merge.specs.Same.{same_frequency};
+ghost use Rattle.gtfs_rows.specs.RowsInMemory.{frequency_of};
+ghost use Rattle.gtfs_merge.specs.SameRows.{same_frequency};
 ghost use Rattle.gtfs_merge.specs.SameByNumber.{same_frequencies_in};
 
 use gtfs_rows::Frequency;

@@ -1,5 +1,5 @@
 ghost use Rattle.std.specs.Prelude.{◌≡◌};
-ghost use Rattle.gtfs_merge.specs.Same.{same_service};
+ghost use Rattle.gtfs_merge.specs.SameRows.{same_service};
 
 use gtfs_days::Service;
 

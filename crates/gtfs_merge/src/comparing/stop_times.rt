@@ -1,12 +1,12 @@
 ghost use Rattle.std.specs.Option.{option_eq};
 ghost use Rattle.std.specs.Prelude.{◌≡◌, ◌<◌, IfSome, None, Some, length, map, nat_eq, option_map, slice_index_or, true};
 ghost use Rattle.gtfs_rows.specs.Trips.{AreStopTimes};
-ghost use Rattle.gtfs_rows.specs.Views.{text_of_number};
+ghost use Rattle.gtfs_rows.specs.RowsInMemory.{text_of_number};
 ghost use Rattle.gtfs_rows.specs.declared.parts.Parts.{Parts};
 ghost use Rattle.gtfs_merge.specs.Renaming.{Renaming, stop_b};
-ghost use Rattle.gtfs_merge.specs.Same.{same_text};
+ghost use Rattle.gtfs_merge.specs.SameRows.{same_text};
 ghost use Rattle.gtfs_merge.specs.SameByNumber.{same_headsign_in, same_stop_id_in, same_stop_row_in, same_stop_rows_in};
-ghost use Rattle.gtfs_merge.specs.Sides.{content_a, content_b, nearness_of};
+ghost use Rattle.gtfs_merge.specs.MergedSides.{content_a, content_b, nearness_of};
 ghost use Rattle.gtfs_merge.specs.Twins.{twin_numbers};
 ghost use Rattle.gtfs_merge.specs.declared.kind.Kind.TheVariants as kind;
 

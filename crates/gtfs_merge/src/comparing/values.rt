@@ -1,5 +1,5 @@
 ghost use Rattle.std.specs.Prelude.{◌≡◌};
-ghost use Rattle.gtfs_merge.specs.Same.{same_degrees, same_number, same_text};
+ghost use Rattle.gtfs_merge.specs.SameRows.{same_degrees, same_number, same_text};
 
 use gtfs_field::{Coord, Text};
 use gtfs_rows::OptionalClock;

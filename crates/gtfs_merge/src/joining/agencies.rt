@@ -1,5 +1,5 @@
 ghost use Rattle.std.specs.Prelude.{◌≡◌, ◌<◌, [], IfOk, length, map, option_map, slice_index_or};
-ghost use Rattle.gtfs_rows.specs.Views.{agency_ids};
+ghost use Rattle.gtfs_rows.specs.RowsInMemory.{agency_ids};
 ghost use Rattle.gtfs_merge.specs.JoinedNumbers.{joined_number, joined_numbers};
 ghost use Rattle.gtfs_merge.specs.declared.kind.Kind.TheVariants as kind;
 

@@ -1,8 +1,8 @@
 ghost use Rattle.std.specs.Prelude.{◌≡◌, ◌<◌, IfOk, Some, bytes_eq, length, option_and_then, option_map, position, slice_get};
-ghost use Rattle.gtfs_rows.specs.Views.{stop_ids};
+ghost use Rattle.gtfs_rows.specs.RowsInMemory.{stop_ids};
 ghost use Rattle.gtfs_rows.specs.declared.stop.Stop.{Stop as StopRowOf};
 ghost use Rattle.gtfs_merge.specs.Renaming.{Renaming, near_stop_under};
-ghost use Rattle.gtfs_merge.specs.Sides.{content_a, content_b, nearness_of};
+ghost use Rattle.gtfs_merge.specs.MergedSides.{content_a, content_b, nearness_of};
 ghost use Rattle.gtfs_merge.specs.Twins.{near_stops, parent_became};
 
 use crate::sides::Sides;

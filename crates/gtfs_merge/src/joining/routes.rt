@@ -1,6 +1,6 @@
 ghost use Rattle.std.specs.Option.{option_eq};
 ghost use Rattle.std.specs.Prelude.{◌≡◌, ◌<◌, [], IfOk, None, Some, length, map, nat_eq, option_map, slice_index_or};
-ghost use Rattle.gtfs_rows.specs.Views.{route_ids};
+ghost use Rattle.gtfs_rows.specs.RowsInMemory.{route_ids};
 ghost use Rattle.gtfs_merge.specs.JoinedNumbers.{joined_number, joined_numbers};
 ghost use Rattle.gtfs_merge.specs.declared.kind.Kind.TheVariants as kind;
 

@@ -1,8 +1,8 @@
 ghost use Rattle.std.specs.Prelude.{◌≡◌, ◌<◌, [], IfOk, Some, length, map, option_map, slice_get, slice_index_or};
-ghost use Rattle.gtfs_rows.specs.Views.{stop_ids};
+ghost use Rattle.gtfs_rows.specs.RowsInMemory.{stop_ids};
 ghost use Rattle.gtfs_rows.specs.declared.stop.Stop.{Stop as StopRowOf};
 ghost use Rattle.gtfs_merge.specs.Renaming.{Renaming, stop_under, stop_within};
-ghost use Rattle.gtfs_merge.specs.Sides.{content_a, content_b, nearness_of};
+ghost use Rattle.gtfs_merge.specs.MergedSides.{content_a, content_b, nearness_of};
 ghost use Rattle.gtfs_merge.specs.Twins.{became, near_stops, parent_became, twin_numbers};
 ghost use Rattle.gtfs_merge.specs.declared.kind.Kind.TheVariants as kind;
 

@@ -1,10 +1,10 @@
 ghost use Rattle.std.specs.Prelude.{◌≡◌, ◌<◌, [], IfOk, IfSome, None, Some, length, map, option_and_then, option_map, slice_get, slice_index_or};
-ghost use Rattle.gtfs_rows.specs.Views.{stop_ids};
+ghost use Rattle.gtfs_rows.specs.RowsInMemory.{stop_ids};
 ghost use Rattle.gtfs_rows.specs.declared.stop.Stop.{Stop as StopRowOf};
 ghost use Rattle.gtfs_merge.specs.JoinedNumbers.{number_if};
-ghost use Rattle.gtfs_nearby.specs.Near.{is_same_parent};
+ghost use Rattle.gtfs_nearby.specs.NearRows.{is_same_parent};
 ghost use Rattle.gtfs_merge.specs.Renaming.{Renaming, joined_stop_under};
-ghost use Rattle.gtfs_merge.specs.Sides.{content_a, content_b, is_joined_id};
+ghost use Rattle.gtfs_merge.specs.MergedSides.{content_a, content_b, is_joined_id};
 ghost use Rattle.gtfs_merge.specs.Twins.{became, joined_flags, parent_became, twin_numbers};
 ghost use Rattle.gtfs_merge.specs.declared.kind.Kind.TheVariants as kind;
 

@@ -1,11 +1,11 @@
 ghost use Rattle.std.specs.Option.{option_eq};
 ghost use Rattle.std.specs.Prelude.{◌≡◌, ◌<◌, [], IfOk, None, Some, length, map, nat_eq, option_map, slice_get, slice_index_or};
 ghost use Rattle.gtfs_rows.specs.Rows.{Trip as TripOf};
-ghost use Rattle.gtfs_rows.specs.Views.{trip_ids};
+ghost use Rattle.gtfs_rows.specs.RowsInMemory.{trip_ids};
 ghost use Rattle.gtfs_merge.specs.JoinedNumbers.{joined_number, joined_numbers};
 ghost use Rattle.gtfs_merge.specs.Renaming.{kept_as_is, route_b, service_b, stop_b, trip_with};
-ghost use Rattle.gtfs_merge.specs.Same.{same_trip};
-ghost use Rattle.gtfs_merge.specs.Sides.{content_a, content_b, nearness_of};
+ghost use Rattle.gtfs_merge.specs.SameRows.{same_trip};
+ghost use Rattle.gtfs_merge.specs.MergedSides.{content_a, content_b, nearness_of};
 ghost use Rattle.gtfs_merge.specs.Twins.{twin_numbers};
 ghost use Rattle.gtfs_merge.specs.declared.kind.Kind.TheVariants as kind;
 

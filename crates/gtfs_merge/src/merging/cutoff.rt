@@ -2,8 +2,8 @@ ghost use Rattle.std.specs.Prelude.{◌≡◌, IfOk, IfSome, Some, false, true};
 ghost use Rattle.std.specs.Cow.{cow_value};
 ghost use Rattle.gtfs_days.specs.Cut.{cut_day};
 ghost use Rattle.gtfs_days.specs.Service.{is_service_day};
-ghost use Rattle.gtfs_rows.specs.Trimmed.{trimmed};
-ghost use Rattle.gtfs_rows.specs.Views.{content_of_parts};
+ghost use Rattle.gtfs_rows.specs.TrimmedContent.{trimmed};
+ghost use Rattle.gtfs_rows.specs.RowsInMemory.{content_of_parts};
 ghost use Rattle.gtfs_merge.specs.Merged.{zone_texts_differ};
 ghost use Rattle.gtfs_merge.specs.Merging.{AreRowsOfMerge};
 

@@ -1,5 +1,5 @@
 ghost use Rattle.std.specs.Prelude.{IfErr, IfOk};
-ghost use Rattle.gtfs_rows.specs.Views.{IsSoundParts, content_of_parts};
+ghost use Rattle.gtfs_rows.specs.RowsInMemory.{IsSoundParts, content_of_parts};
 ghost use Rattle.gtfs_merge.specs.Merging.{IsFeedOf, IsLimitFault};
 
 use crate::merging::Merged;

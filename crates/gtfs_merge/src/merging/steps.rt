@@ -1,6 +1,6 @@
 ghost use Rattle.std.specs.Prelude.{◌≡◌, IfOk, None, false};
 ghost use Rattle.std.specs.Cow.{cow_value};
-ghost use Rattle.gtfs_rows.specs.Views.{content_of_parts};
+ghost use Rattle.gtfs_rows.specs.RowsInMemory.{content_of_parts};
 ghost use Rattle.gtfs_merge.specs.Merged.{zone_texts_differ};
 ghost use Rattle.gtfs_merge.specs.Merging.{AreListsOfPair, AreRowsOfMerge};
 

@@ -1,7 +1,7 @@
 ghost use Rattle.std.specs.Prelude.{◌≡◌, ◌<◌, ◌∷◌, ◌++◌, [], IfOk, OnOk, filter, length, slice_index_or};
 ghost use Rattle.gtfs_merge.specs.FeedIds.{known_ids};
 ghost use Rattle.gtfs_merge.specs.Renaming.{joined_ids};
-ghost use Rattle.gtfs_merge.specs.Sides.{content_a, content_b, nearness_of, is_joined_id};
+ghost use Rattle.gtfs_merge.specs.MergedSides.{content_a, content_b, nearness_of, is_joined_id};
 ghost use Rattle.gtfs_merge.specs.Twins.{twin_rows};
 
 use crate::feed_ids::{count_of, id_of, number_of};

@@ -1,7 +1,7 @@
 ghost use Rattle.std.specs.Prelude.{◌≡◌, ◌<◌, ◌++◌, IfOk, OnOk, Some, length};
 ghost use Rattle.gtfs_merge.specs.FeedIds.{known_ids};
-ghost use Rattle.gtfs_merge.specs.Near.{near_pairs};
-ghost use Rattle.gtfs_merge.specs.Sides.{content_a, content_b, nearness_of};
+ghost use Rattle.gtfs_merge.specs.NearStops.{near_pairs};
+ghost use Rattle.gtfs_merge.specs.MergedSides.{content_a, content_b, nearness_of};
 ghost use Rattle.gtfs_merge.specs.Twins.{near_at, pairs_at, twin_rows};
 ghost use Rattle.gtfs_merge.specs.declared.kind.Kind.TheVariants as kind;
 

@@ -2,7 +2,7 @@ ghost use Rattle.std.specs.Prelude.{◌≡◌, ◌&&◌, [], IfOk, None, false, 
 ghost use Rattle.gtfs_merge.specs.FeedIds.{known_ids};
 ghost use Rattle.gtfs_merge.specs.Names.{is_nameless, name_or};
 ghost use Rattle.gtfs_merge.specs.Renaming.{agency_b, lists_id, joined_agency, renaming};
-ghost use Rattle.gtfs_merge.specs.Sides.{content_a, content_b, side_names, is_joined_id};
+ghost use Rattle.gtfs_merge.specs.MergedSides.{content_a, content_b, side_names, is_joined_id};
 ghost use Rattle.gtfs_merge.specs.Twins.{twin_number, twin_rows};
 ghost use Rattle.gtfs_merge.specs.declared.kind.Kind.TheVariants as kind;
 ghost use Rattle.gtfs_merge.specs.declared.kind.Side.TheVariants as side;

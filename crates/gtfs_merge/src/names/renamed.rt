@@ -1,10 +1,10 @@
 ghost use Rattle.std.specs.Prelude.{◌≡◌, ◌<◌, [], IfOk, bytes_eq, length, map, option_map, position, slice_index_or};
 ghost use Rattle.gtfs_field.specs.TextOrder.{text_cmp};
-ghost use Rattle.gtfs_rows.specs.Order.{Ascends};
+ghost use Rattle.gtfs_rows.specs.TransferOrder.{Ascends};
 ghost use Rattle.gtfs_merge.specs.FeedIds.{known_ids};
 ghost use Rattle.gtfs_merge.specs.Names.{name_or, names_or, new_id, new_ids};
 ghost use Rattle.gtfs_merge.specs.Renaming.{renaming};
-ghost use Rattle.gtfs_merge.specs.Sides.{side_names};
+ghost use Rattle.gtfs_merge.specs.MergedSides.{side_names};
 ghost use Rattle.gtfs_merge.specs.Twins.{twin_rows};
 ghost use Rattle.gtfs_merge.specs.declared.kind.Side.TheVariants as side;
 
@@ -29,7 +29,7 @@ pub(crate) struct Renamed {
 impl Model for Renamed {
     ghost use Rattle.std.specs.Prelude.{◌≡◌, length};
     ghost use Rattle.gtfs_field.specs.TextOrder.{text_cmp};
-    ghost use Rattle.gtfs_rows.specs.Order.{Ascends};
+    ghost use Rattle.gtfs_rows.specs.TransferOrder.{Ascends};
     ghost use Rattle.gtfs_merge.specs.Names.{NewIds, names_or};
 
     ghost Value = { NewIds };

@@ -1,5 +1,5 @@
 ghost use Rattle.std.specs.Prelude.{◌≡◌, ◌<◌, ℕ, All, IfOk, IfSome, None, length, map, slice_index_or};
-ghost use Rattle.gtfs_merge.specs.Entries.{entry_value};
+ghost use Rattle.gtfs_merge.specs.MergeEntries.{entry_value};
 ghost use Rattle.gtfs_merge.specs.EntryRows.{AreMergedRows};
 ghost use Rattle.gtfs_merge.specs.NewNumbers.{AreNumbered, AreRenumbered, number_or, numbers_of, with_number};
 ghost use Rattle.gtfs_merge.specs.Twins.{of_kind, twin_rows};

@@ -1,5 +1,5 @@
 ghost use Rattle.std.specs.Prelude.{◌≡◌, IfOk, map};
-ghost use Rattle.gtfs_merge.specs.Entries.{entry_value};
+ghost use Rattle.gtfs_merge.specs.MergeEntries.{entry_value};
 ghost use Rattle.gtfs_merge.specs.KindEntries.{AreKindRows};
 ghost use Rattle.gtfs_merge.specs.Names.{AreKindNames};
 ghost use Rattle.gtfs_merge.specs.NewNumbers.{numbers_of};
@@ -24,7 +24,7 @@ pub(crate) struct KindRows<'a> {
 impl<'a> Model for KindRows<'a> {
     ghost use Rattle.std.specs.Prelude.{map};
     ghost use Rattle.gtfs_merge.specs.KindEntries.{KindEntries};
-    ghost use Rattle.gtfs_merge.specs.Entries.{entry_value};
+    ghost use Rattle.gtfs_merge.specs.MergeEntries.{entry_value};
 
     ghost Value = { KindEntries };
 

@@ -2,11 +2,11 @@ ghost use Rattle.std.specs.List.Sorted.{IsPermutation, IsSorted};
 ghost use Rattle.std.specs.Ordering.{on};
 ghost use Rattle.std.specs.Prelude.{◌≡◌, ◌<◌, ◌∷◌, ◌++◌, [], IfOk, OnOk, filter, length, map};
 ghost use Rattle.gtfs_field.specs.TextOrder.{text_cmp};
-ghost use Rattle.gtfs_merge.specs.Entries.{entry_of, entry_value, is_apart, rows_of_a, rows_of_b};
+ghost use Rattle.gtfs_merge.specs.MergeEntries.{entry_of, entry_value, is_apart, rows_of_a, rows_of_b};
 ghost use Rattle.gtfs_merge.specs.EntryRows.{AreMergedRows};
 ghost use Rattle.gtfs_merge.specs.FeedIds.{known_ids};
 ghost use Rattle.gtfs_merge.specs.Names.{AreKindNames};
-ghost use Rattle.gtfs_merge.specs.Sides.{side_parts};
+ghost use Rattle.gtfs_merge.specs.MergedSides.{side_parts};
 ghost use Rattle.gtfs_merge.specs.Twins.{twin_rows};
 ghost use Rattle.gtfs_merge.specs.declared.kind.Side.TheVariants as side;
 

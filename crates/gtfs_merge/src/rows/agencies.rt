@@ -1,7 +1,7 @@
 ghost use Rattle.std.specs.Prelude.{◌≡◌, IfOk, map};
-ghost use Rattle.gtfs_rows.specs.Views.{agency_of};
+ghost use Rattle.gtfs_rows.specs.RowsInMemory.{agency_of};
 ghost use Rattle.gtfs_merge.specs.KindEntries.{AreKindRows};
-ghost use Rattle.gtfs_merge.specs.Sides.{merged_parts};
+ghost use Rattle.gtfs_merge.specs.MergedSides.{merged_parts};
 ghost use Rattle.gtfs_merge.specs.declared.kind.Kind.TheVariants as kind;
 
 use crate::numbering::one_kind::KindRows;

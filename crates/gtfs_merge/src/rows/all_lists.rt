@@ -1,12 +1,12 @@
 ghost use Rattle.std.specs.Prelude.{◌≡◌, IfOk, false, length};
 ghost use Rattle.std.specs.List.{All};
 ghost use Rattle.csv.specs.Records.{Rising};
-ghost use Rattle.gtfs_stop_times.specs.Joined.{IsTripOf};
+ghost use Rattle.gtfs_stop_times.specs.JoinedStopTimes.{IsTripOf};
 ghost use Rattle.gtfs_merge.specs.KindEntries.{AreMergedKinds};
 ghost use Rattle.gtfs_merge.specs.Merged.{zone_texts_differ};
 ghost use Rattle.gtfs_merge.specs.MergedLists.{AreListsOf, all_parts};
 ghost use Rattle.gtfs_merge.specs.Names.{AreKindNames};
-ghost use Rattle.gtfs_merge.specs.Sides.{content_a, content_b};
+ghost use Rattle.gtfs_merge.specs.MergedSides.{content_a, content_b};
 ghost use Rattle.gtfs_merge.specs.Twins.{twin_rows};
 
 use crate::joining::twins::Twins;

@@ -1,5 +1,5 @@
 ghost use Rattle.std.specs.Prelude.{◌≡◌, IfOk, map};
-ghost use Rattle.gtfs_merge.specs.Entries.{entry_value};
+ghost use Rattle.gtfs_merge.specs.MergeEntries.{entry_value};
 ghost use Rattle.gtfs_merge.specs.TripRows.{entry_trip};
 
 use crate::kind::Side;

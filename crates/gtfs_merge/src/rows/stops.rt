@@ -2,7 +2,7 @@ ghost use Rattle.std.specs.Prelude.{◌≡◌, ◌<◌, IfOk, IfSome, length, ma
 ghost use Rattle.std.specs.List.{list_all};
 ghost use Rattle.gtfs_rows.specs.NamedRows.{names_parent, stop_named};
 ghost use Rattle.gtfs_merge.specs.KindEntries.{AreKindRows};
-ghost use Rattle.gtfs_merge.specs.Sides.{merged_parts, merged_ids};
+ghost use Rattle.gtfs_merge.specs.MergedSides.{merged_parts, merged_ids};
 ghost use Rattle.gtfs_merge.specs.declared.kind.Kind.TheVariants as kind;
 
 use crate::numbering::one_kind::KindRows;

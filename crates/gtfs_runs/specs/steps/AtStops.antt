@@ -1,15 +1,15 @@
 -- The departure rows of all stops, in a list for each.
 use Rattle.std.specs.Prelude.{◌≡◌, ℕ, ◌==◌, ◌&&◌, All, Bool, nat_lt, List, [], length, slice_index_or}
 use Rattle.std.specs.declared.cmp.Ordering.TheVariants.{Less}
-use Rattle.gtfs_rows.specs.Order.{Ascends}
+use Rattle.gtfs_rows.specs.TransferOrder.{Ascends}
 use Rattle.gtfs_rows.specs.Runs.{is_departure_row}
-use Rattle.gtfs_rows.specs.Views.{content_of_parts, stop_ids, stop_row_of, text_of_number, trip_of}
+use Rattle.gtfs_rows.specs.RowsInMemory.{content_of_parts, stop_ids, stop_row_of, text_of_number, trip_of}
 use Rattle.gtfs_rows.specs.declared.frequency.Frequency.{Frequency}
 use Rattle.gtfs_rows.specs.declared.parts.Parts.{Parts}
 use Rattle.gtfs_stop_times.specs.declared.stop_row.StopRow.{StopRow}
 use Rattle.gtfs_rows.specs.declared.trip.Trip.{Trip}
 use Rattle.gtfs_runs.specs.StopIndex.{has_departure_row, departure_row_cmp}
-use Rattle.gtfs_runs.specs.declared.stop_index.DepartureRow.{DepartureRow}
+use Rattle.gtfs_runs.specs.declared.departure_row.DepartureRow.{DepartureRow}
 
 -- riders can leave the stop of this number at a stop time of a trip
 abbrev pub leaves_stop : Parts → Trip → List StopRow → List Frequency → ℕ → StopRow → Bool

@@ -4,14 +4,14 @@ use Rattle.std.specs.List.{list_any}
 use Rattle.std.specs.Cmp.Lexicographic.{slice_cmp}
 use Rattle.std.specs.Ordering.{nat_cmp, on, then_cmp, is_eq}
 use Rattle.std.specs.declared.cmp.Ordering.{Ordering}
-use Rattle.gtfs_rows.specs.Views.{content_of_parts, service_ids, stop_ids, text_of_number}
+use Rattle.gtfs_rows.specs.RowsInMemory.{content_of_parts, service_ids, stop_ids, text_of_number}
 use Rattle.gtfs_rows.specs.declared.parts.Parts.{Parts}
-use Rattle.gtfs_runs.specs.Kinds.{course_at, is_of_list}
+use Rattle.gtfs_runs.specs.LaneKinds.{course_at, is_of_list}
 use Rattle.gtfs_runs.specs.Lanes.{Course}
-use Rattle.gtfs_runs.specs.Order.{event_cmp}
+use Rattle.gtfs_runs.specs.EventOrder.{event_cmp}
 use Rattle.gtfs_runs.specs.declared.event.Event.{Event}
 use Rattle.gtfs_runs.specs.declared.stop_lanes.listed.ListedEvent.{ListedEvent}
-use Rattle.gtfs_runs.specs.steps.Groups.{trip_group}
+use Rattle.gtfs_runs.specs.steps.TripGroups.{trip_group}
 
 -- the service, the position of a stop time and the stops of a trip
 pub record CourseNo : Type 0 where

@@ -1,22 +1,21 @@
 ghost use Rattle.std.specs.Prelude.{◌≡◌, ◌<◌, ◌+◌, ◌&&◌, ◌==◌, ℕ, Bool, true, All, AllPairs, IfOk, List, OnOk, Some, cond, length, map, slice_get};
 ghost use Rattle.std.specs.List.Sorted.{IsSorted};
-ghost use Rattle.gtfs_schema.specs.Values.{if_there};
-ghost use Rattle.gtfs_rows.specs.Order.{Ascends};
+ghost use Rattle.gtfs_schema.specs.FieldValues.{if_there};
+ghost use Rattle.gtfs_rows.specs.TransferOrder.{Ascends};
 ghost use Rattle.gtfs_rows.specs.Trips.{stop_rows_by_trip};
 ghost use Rattle.gtfs_rows.specs.declared.frequency.Frequency.{Frequency};
 ghost use Rattle.gtfs_rows.specs.declared.parts.Parts.{Parts};
 ghost use Rattle.gtfs_rows.specs.declared.trip.Trip.{Trip};
-ghost use Rattle.gtfs_runs.specs.Counts.{tally};
+ghost use Rattle.gtfs_runs.specs.Tallies.{tally};
 ghost use Rattle.gtfs_runs.specs.StopIndex.{departure_row_cmp, is_this_row};
 ghost use Rattle.gtfs_runs.specs.steps.AtStops.{StandBefore, at_stop, departs_of, leaves_stop};
-ghost use Rattle.gtfs_runs.specs.steps.Groups.{AreOfTrips, grouped_cmp};
-ghost use Rattle.gtfs_runs.specs.steps.Noted.{IsNoted, noted_row};
-ghost use Rattle.gtfs_runs.specs.steps.Ranked.{IsOfRank};
+ghost use Rattle.gtfs_runs.specs.steps.TripGroups.{AreOfTrips, grouped_cmp};
+ghost use Rattle.gtfs_runs.specs.steps.NotedRows.{IsNoted};
+ghost use Rattle.gtfs_runs.specs.steps.IndexedTrips.{IsOfRank};
 ghost use Rattle.gtfs_times.specs.TimedRows.{timed_parts};
 
-use crate::departure_row::is_departure_row;
+use crate::departure_row::{DepartureRow, is_departure_row, row_at};
 use crate::grouped_trip::GroupedTrip;
-use crate::stop_index::DepartureRow;
 use crate::stop_index::rooms::rooms;
 use gtfs_feed::Feed;
 use gtfs_field::OutOfMemory;
@@ -158,17 +157,4 @@ fn add_row(
     let row = row_at(trip, rank, position, stop_time)?;
     found[stop_time.stop_id.0].push(row)?;
     Ok(())
-}
-
-// This stop time of a trip of a rank at a position.
-pub(crate) fn row_at(
-    trip: TripNo,
-    rank: u32,
-    position: usize,
-    stop_time: &StopRow,
-) -> Result<DepartureRow, OutOfMemory>
-    ensures { IfOk result (λ row. row ≡ noted_row trip.0 rank position stop_time.now) }
-{
-    let trip = small_number(trip.0)?;
-    Ok(DepartureRow::new(trip, rank, small_number(position)?, stop_time))
 }

@@ -1,7 +1,7 @@
 ghost use Rattle.std.specs.Prelude.{◌≡◌, ◌<◌, ◌≤◌, ◌+◌, ◌==◌, ◌&&◌, ℕ, IfOk, OnOk, cond, filter, length, option_map};
 ghost use Rattle.std.specs.List.Sorted.{IsSorted};
-ghost use Rattle.gtfs_schema.specs.Values.{if_there};
-ghost use Rattle.gtfs_runs.specs.Counts.{tally};
+ghost use Rattle.gtfs_schema.specs.FieldValues.{if_there};
+ghost use Rattle.gtfs_runs.specs.Tallies.{tally};
 ghost use Rattle.gtfs_runs.specs.steps.Children.{AreChildren, below_parent, child_cmp, is_child, is_pair};
 
 use gtfs_feed::Feed;

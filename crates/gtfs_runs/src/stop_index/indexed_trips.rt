@@ -3,10 +3,10 @@ ghost use Rattle.std.specs.List.Sorted.{IsSorted};
 ghost use Rattle.gtfs_rows.specs.Trips.{frequencies_by_trip, stop_rows_by_trip};
 ghost use Rattle.gtfs_rows.specs.declared.frequency.Frequency.{Frequency};
 ghost use Rattle.gtfs_runs.specs.declared.stop_index.indexed_trips.IndexedTrip.{IndexedTrip as IndexedValue};
-ghost use Rattle.gtfs_runs.specs.steps.Groups.{AreOfTrips, GroupedTripValue, below, group_cmp, group_of, trip_group};
+ghost use Rattle.gtfs_runs.specs.steps.TripGroups.{AreOfTrips, GroupedTripValue, below, group_cmp, group_of, trip_group};
 ghost use Rattle.gtfs_stop_times.specs.StopLists.{stops_in};
 ghost use Rattle.gtfs_runs.specs.steps.Passings.{first_left};
-ghost use Rattle.gtfs_runs.specs.steps.Ranked.{AreIndexedTrips};
+ghost use Rattle.gtfs_runs.specs.steps.IndexedTrips.{AreIndexedTrips};
 
 use crate::departure_row::trip_start;
 use crate::grouped_trip::{GroupedTrip, group_order};
@@ -57,7 +57,8 @@ pub(crate) fn trip_at(trips: &[IndexedTrip], rank: u32) -> IndexedTrip
     trips[rank as usize]
 }
 
-// The trips of a feed, which have these stops, by their groups.
+// Each trip of a feed with its group, in the order of their numbers, where these are the stops of
+// all trips.
 pub(crate) fn grouped_trips<'a>(
     alloc: Global,
     feed: &Feed,

@@ -1,6 +1,6 @@
 ghost use Rattle.std.specs.Prelude.{◌≡◌, IfOk, [], length, map};
 
-use crate::stop_index::DepartureRow;
+use crate::departure_row::DepartureRow;
 use gtfs_feed::Feed;
 use gtfs_field::OutOfMemory;
 use std::alloc::Global;

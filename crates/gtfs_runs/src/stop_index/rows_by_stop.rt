@@ -1,13 +1,13 @@
 ghost use Rattle.std.specs.Prelude.{◌≡◌, ◌<◌, All, IfOk, Some, length, slice_get};
 ghost use Rattle.std.specs.List.Sorted.{IsSorted};
 ghost use Rattle.gtfs_runs.specs.StopIndex.{AreDepartureRows};
-ghost use Rattle.gtfs_runs.specs.steps.Groups.{AreOfTrips, grouped_cmp};
-ghost use Rattle.gtfs_runs.specs.steps.Noted.{IsNoted};
-ghost use Rattle.gtfs_runs.specs.steps.Ranked.{IsOfRank};
+ghost use Rattle.gtfs_runs.specs.steps.TripGroups.{AreOfTrips, grouped_cmp};
+ghost use Rattle.gtfs_runs.specs.steps.NotedRows.{IsNoted};
+ghost use Rattle.gtfs_runs.specs.steps.IndexedTrips.{IsOfRank};
 ghost use Rattle.gtfs_times.specs.TimedRows.{timed_parts};
 
+use crate::departure_row::DepartureRow;
 use crate::grouped_trip::GroupedTrip;
-use crate::stop_index::DepartureRow;
 use crate::stop_index::at_stops::at_stops;
 use gtfs_feed::Feed;
 use gtfs_field::OutOfMemory;
@@ -25,7 +25,7 @@ pub(crate) struct RowsByStop {
 
 impl Model for RowsByStop {
     ghost use Rattle.std.specs.Prelude.{List, map};
-    ghost use Rattle.gtfs_runs.specs.declared.stop_index.DepartureRow.{DepartureRow as RowValue};
+    ghost use Rattle.gtfs_runs.specs.declared.departure_row.DepartureRow.{DepartureRow as RowValue};
 
     ghost Value = { List (List RowValue) };
 

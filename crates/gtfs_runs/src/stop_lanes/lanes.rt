@@ -1,10 +1,10 @@
 ghost use Rattle.std.specs.Prelude.{◌<◌, IfOk, length, map};
-ghost use Rattle.gtfs_rows.specs.Views.{content_of_parts, service_ids, stop_ids, text_of_number};
+ghost use Rattle.gtfs_rows.specs.RowsInMemory.{content_of_parts, service_ids, stop_ids, text_of_number};
 ghost use Rattle.gtfs_runs.specs.StopLanes.{list_value, period_value};
 ghost use Rattle.gtfs_runs.specs.steps.Courses.{AreServed, stopping_of};
-ghost use Rattle.gtfs_runs.specs.steps.Finds.{AreFound};
-ghost use Rattle.gtfs_runs.specs.steps.Numbers.{AreNumbered};
-ghost use Rattle.gtfs_runs.specs.steps.Whole.{AreWhole};
+ghost use Rattle.gtfs_runs.specs.steps.FoundEvents.{AreFound};
+ghost use Rattle.gtfs_runs.specs.steps.CourseNumbers.{AreNumbered};
+ghost use Rattle.gtfs_runs.specs.steps.WholeLanes.{AreWhole};
 ghost use Rattle.gtfs_times.specs.Filling.{timed};
 ghost use Rattle.gtfs_times.specs.TimedRows.{timed_parts};
 

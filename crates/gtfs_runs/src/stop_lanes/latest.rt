@@ -1,7 +1,7 @@
 ghost use Rattle.std.specs.Prelude.{◌≡◌, ◌++◌, map};
 ghost use Rattle.std.specs.List.{flat_map};
 ghost use Rattle.gtfs_runs.specs.StopLanes.{list_value, period_value};
-ghost use Rattle.gtfs_runs.specs.steps.Lists.{latest_of};
+ghost use Rattle.gtfs_runs.specs.steps.LatestOfLists.{latest_of};
 
 use crate::list_lane::ListLane;
 use crate::step_lane::StepLane;

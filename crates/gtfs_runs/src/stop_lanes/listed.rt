@@ -3,7 +3,7 @@ ghost use Rattle.std.specs.List.Sorted.{IsPermutation, IsSorted};
 ghost use Rattle.gtfs_rows.specs.declared.parts.Parts.{Parts};
 ghost use Rattle.gtfs_runs.specs.declared.stop_lanes.listed.ListedEvent.{ListedEvent as ListedValue};
 ghost use Rattle.gtfs_runs.specs.steps.Courses.{event_of, is_same_course, stopping_cmp, stopping_of};
-ghost use Rattle.gtfs_runs.specs.steps.Numbers.{AreNumbered, IsNumbered, is_alike};
+ghost use Rattle.gtfs_runs.specs.steps.CourseNumbers.{AreNumbered, IsNumbered, is_alike};
 ghost use Rattle.gtfs_runs.specs.steps.Passings.{passing_event};
 
 use crate::event::Event;

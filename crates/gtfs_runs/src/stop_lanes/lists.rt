@@ -1,11 +1,11 @@
 ghost use Rattle.std.specs.Prelude.{◌≡◌, ◌≤◌, ◌<◌, ◌+◌, ◌++◌, ℕ, All, IfOk, drop, false, length, map, slice_index_or, true};
-ghost use Rattle.gtfs_rows.specs.Order.{Ascends};
-ghost use Rattle.gtfs_rows.specs.Views.{content_of_parts};
+ghost use Rattle.gtfs_rows.specs.TransferOrder.{Ascends};
+ghost use Rattle.gtfs_rows.specs.RowsInMemory.{content_of_parts};
 ghost use Rattle.gtfs_rows.specs.declared.parts.Parts.{Parts};
-ghost use Rattle.gtfs_runs.specs.Kinds.{IsListLane};
+ghost use Rattle.gtfs_runs.specs.LaneKinds.{IsListLane};
 ghost use Rattle.gtfs_runs.specs.StopLanes.{events_of_service, list_value};
 ghost use Rattle.gtfs_runs.specs.declared.stop_lanes.listed.ListedEvent.{ListedEvent as ListedValue};
-ghost use Rattle.gtfs_runs.specs.steps.Numbers.{AreNumbered, is_alike, listed_cmp};
+ghost use Rattle.gtfs_runs.specs.steps.CourseNumbers.{AreNumbered, is_alike, listed_cmp};
 ghost use Rattle.gtfs_runs.specs.steps.Courses.{AreServed, IsListed, event_of, how_many, is_same_course, stopping_events, stopping_of};
 
 use crate::event::Event;

@@ -1,11 +1,11 @@
 ghost use Rattle.std.specs.Prelude.{◌≡◌, ◌≤◌, ◌<◌, ◌-◌, ◌==◌, ℕ, true, All, IfOk, length, map, slice_index_or};
 ghost use Rattle.std.specs.List.Sorted.{IsSorted};
 ghost use Rattle.gtfs_rows.specs.declared.parts.Parts.{Parts};
-ghost use Rattle.gtfs_runs.specs.Counts.{tally};
+ghost use Rattle.gtfs_runs.specs.Tallies.{tally};
 ghost use Rattle.gtfs_runs.specs.declared.stop_lanes.listed.ListedEvent.{ListedEvent as ListedValue};
 ghost use Rattle.gtfs_runs.specs.steps.Courses.{AreServed, stopping_of};
-ghost use Rattle.gtfs_runs.specs.steps.Groups.{below, group_cmp, group_of, trip_group};
-ghost use Rattle.gtfs_runs.specs.steps.Numbers.{AreNumbered};
+ghost use Rattle.gtfs_runs.specs.steps.TripGroups.{below, group_cmp, group_of, trip_group};
+ghost use Rattle.gtfs_runs.specs.steps.CourseNumbers.{AreNumbered};
 
 use crate::departure_row::trip_start;
 use crate::grouped_trip::{GroupedTrip, by_group, group_order};

@@ -1,9 +1,9 @@
 ghost use Rattle.std.specs.Prelude.{◌≡◌, ◌≤◌, ◌+◌};
-ghost use Rattle.gtfs_runs.specs.steps.Noted.{noted_passing};
+ghost use Rattle.gtfs_runs.specs.steps.NotedRows.{noted_passing};
 ghost use Rattle.gtfs_runs.specs.steps.Passings.{passing_event};
 
+use crate::departure_row::DepartureRow;
 use crate::event::Event;
-use crate::stop_index::DepartureRow;
 use gtfs_rows::TripNo;
 
 // A stop time at which riders can leave the place of a stop,

@@ -1,9 +1,9 @@
 ghost use Rattle.std.specs.Prelude.{◌≡◌, ◌++◌, ◌∷◌, All, IfOk, List, [], OnOk, false, map};
 ghost use Rattle.std.specs.List.{list_any};
-ghost use Rattle.gtfs_rows.specs.Views.{content_of_parts};
-ghost use Rattle.gtfs_runs.specs.Kinds.{has_untimed, is_untimed_at};
+ghost use Rattle.gtfs_rows.specs.RowsInMemory.{content_of_parts};
+ghost use Rattle.gtfs_runs.specs.LaneKinds.{has_untimed, is_untimed_at};
 ghost use Rattle.gtfs_runs.specs.StopLanes.{LaneValue, filled_value, list_value};
-ghost use Rattle.gtfs_runs.specs.steps.Apart.{AreApart};
+ghost use Rattle.gtfs_runs.specs.steps.FilledApart.{AreApart};
 ghost use Rattle.gtfs_times.specs.TimedRows.{is_interpolated, lacks_time};
 
 use crate::event::Event;

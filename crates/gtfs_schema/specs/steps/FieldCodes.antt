@@ -3,8 +3,8 @@ use Rattle.std.specs.Prelude.{ℕ, ◌==◌, ◌&&◌, Bool, nat_lt, if◌then�
 use Rattle.gtfs_table.specs.declared.file.File.{File}
 use Rattle.gtfs_schema.specs.declared.code.Code.{Code}
 use Rattle.gtfs_schema.specs.declared.code.Code.TheVariants as code
-use Rattle.gtfs_schema.specs.steps.Cells.{is_found, when}
-use Rattle.gtfs_schema.specs.steps.Picks.{is_kept, of_codes}
+use Rattle.gtfs_schema.specs.steps.CellFaults.{is_found, when}
+use Rattle.gtfs_schema.specs.steps.KeptColumns.{is_kept, of_codes}
 use Rattle.gtfs_schema.specs.Problems.{Problem}
 
 -- the codes of single fields and of the length of a row

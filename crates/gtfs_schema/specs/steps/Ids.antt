@@ -8,10 +8,10 @@ use Rattle.gtfs_field.specs.TextOrder.{text_cmp}
 use Rattle.gtfs_schema.specs.declared.id_row.IdRow.{IdRow}
 use Rattle.gtfs_schema.specs.declared.slots.Slot.{Slot}
 use Rattle.gtfs_schema.specs.steps.IdRows.{id_and_row, id_of, listed_row}
-use Rattle.gtfs_schema.specs.steps.Slots.{held_id, IsSlotOf}
+use Rattle.gtfs_schema.specs.steps.IdSlots.{held_id, IsSlotOf}
 pub use Rattle.gtfs_schema.specs.IdNumbers.{first_rows}
 use Rattle.gtfs_schema.specs.IdNumbers.{number_among}
-use Rattle.gtfs_schema.specs.Values.{has_control}
+use Rattle.gtfs_schema.specs.FieldValues.{has_control}
 
 -- the first row of each id
 abbrev pub FirstRows : Type 0

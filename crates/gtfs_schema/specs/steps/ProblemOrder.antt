@@ -6,13 +6,13 @@ use Rattle.std.specs.FinMap.{IsAntisymmetric, nat_cmp-IsAntisymmetric, slice_cmp
 use Rattle.std.specs.Ordering.{eq_by_cmp, ordering_then}
 use Rattle.std.specs.declared.cmp.Ordering.{Ordering}
 use Rattle.std.specs.declared.cmp.Ordering.TheVariants.{Less, Equal, Greater}
-use Rattle.gtfs_table.specs.Reading.{kept_files}
+use Rattle.gtfs_table.specs.TablesRead.{kept_files}
 use Rattle.gtfs_table.specs.declared.file.File.{File}
 use Rattle.gtfs_table.specs.declared.file.File.TheVariants as file
 use Rattle.gtfs_schema.specs.declared.code.Code.{Code}
 use Rattle.gtfs_schema.specs.declared.code.Code.TheVariants as code
 use Rattle.gtfs_schema.specs.Codes.{all_codes, code_rank}
-use Rattle.gtfs_schema.specs.Rows.{file_rank}
+use Rattle.gtfs_schema.specs.RowConditions.{file_rank}
 use Rattle.gtfs_schema.specs.Problems.{FileName, kept, other, Problem, name_rank, name_bytes, name_cmp, problem_cmp}
 
 -- ---- the order is total

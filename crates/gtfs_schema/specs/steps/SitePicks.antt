@@ -3,7 +3,7 @@ use Rattle.std.specs.Prelude.{ℕ, Bool, List}
 use Rattle.std.specs.List.{list_any}
 use Rattle.gtfs_table.specs.declared.file.File.{File}
 use Rattle.gtfs_schema.specs.declared.code.Code.{Code}
-use Rattle.gtfs_schema.specs.steps.Picks.{at_column}
+use Rattle.gtfs_schema.specs.steps.KeptColumns.{at_column}
 use Rattle.gtfs_schema.specs.Problems.{Problem}
 
 abbrev pub at_sites : Code → List (File × List ℕ) → Problem → Bool

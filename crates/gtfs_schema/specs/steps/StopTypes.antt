@@ -4,8 +4,8 @@ use Rattle.gtfs_table.specs.Tables.{Dataset}
 use Rattle.gtfs_table.specs.declared.file.File.TheVariants as file
 use Rattle.gtfs_schema.specs.Columns.{id}
 use Rattle.gtfs_schema.specs.steps.Ids.{FirstRows, first_row_with}
-use Rattle.gtfs_schema.specs.Reads.{choice_of, word_of}
-use Rattle.gtfs_schema.specs.Rows.{choice_in}
+use Rattle.gtfs_schema.specs.ReadFields.{choice_of, word_of}
+use Rattle.gtfs_schema.specs.RowConditions.{choice_in}
 
 -- the location type that a text is
 abbrev pub type_in_text : List ℕ → Option ℤ

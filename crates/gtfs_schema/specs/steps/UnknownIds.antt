@@ -1,7 +1,7 @@
 -- When an id names no row.
 use Rattle.std.specs.Prelude.{ℕ, ◌&&◌, ◌||◌, not, Bool, List, is_some}
 use Rattle.gtfs_schema.specs.steps.Ids.{FirstRows, first_row_with}
-use Rattle.gtfs_schema.specs.Reads.{is_id}
+use Rattle.gtfs_schema.specs.ReadFields.{is_id}
 
 -- no row of the column has the id
 abbrev pub is_unknown : FirstRows → List ℕ → Bool

@@ -2,7 +2,7 @@ ghost use Rattle.std.specs.Prelude.{◌≡◌, ℕ, option_map};
 ghost use Rattle.gtfs_table.specs.Rows.{records_in};
 ghost use Rattle.gtfs_table.specs.Tables.{record_at};
 ghost use Rattle.gtfs_table.specs.declared.file.File.TheVariants as file;
-ghost use Rattle.gtfs_trip_rules.specs.PeriodView.{period_at, period_in};
+ghost use Rattle.gtfs_trip_rules.specs.FrequencyPeriods.{period_at, period_in};
 
 use gtfs_schema::values;
 use gtfs_table::{File, Record, Tables};

@@ -1,5 +1,5 @@
 ghost use Rattle.std.specs.Prelude.{◌≡◌, ℕ, ◌&&◌, ◌||◌, Bool, false, nat_eq, IfOk, MatchOption, OnOk};
-ghost use Rattle.gtfs_trip_rules.specs.SpanView.{AreApart, AreFilled, IsMet, covers, shares};
+ghost use Rattle.gtfs_trip_rules.specs.PeriodSpans.{AreApart, AreFilled, IsMet, covers, shares};
 
 use gtfs_field::OutOfMemory;
 use std::alloc::Global;

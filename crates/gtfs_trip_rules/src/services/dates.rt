@@ -2,7 +2,7 @@ ghost use Rattle.std.specs.Prelude.{◌≡◌, ℕ, IfOk, map, option_map};
 ghost use Rattle.gtfs_schema.specs.KeyRules.{all_there};
 ghost use Rattle.gtfs_trip_rules.specs.ServiceRows.{exception_in_texts};
 ghost use Rattle.gtfs_trip_rules.specs.ServiceFields.{exception_in};
-ghost use Rattle.gtfs_trip_rules.specs.ServiceView.{each_day_once, exceptions_of_rows};
+ghost use Rattle.gtfs_trip_rules.specs.ServiceCalendars.{each_day_once, exceptions_of_rows};
 
 use gtfs_days::Exception;
 use gtfs_field::{Day, OutOfMemory, read_date};

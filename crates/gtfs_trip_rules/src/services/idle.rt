@@ -1,6 +1,6 @@
 ghost use Rattle.std.specs.Prelude.{◌≡◌, IfOk};
 ghost use Rattle.gtfs_days.specs.Service.{IsOrdered, NamesEachDayOnce};
-ghost use Rattle.gtfs_trip_rules.specs.ServiceView.{is_never_active};
+ghost use Rattle.gtfs_trip_rules.specs.ServiceCalendars.{is_never_active};
 
 use gtfs_days::{Exception, FIRST_SERVICE_DAY, Service, Week};
 use gtfs_field::{Day, OutOfMemory};

@@ -1,5 +1,5 @@
 ghost use Rattle.std.specs.Prelude.{◌≡◌};
-ghost use Rattle.gtfs_trip_rules.specs.ServiceView.{file_of};
+ghost use Rattle.gtfs_trip_rules.specs.ServiceCalendars.{file_of};
 
 use gtfs_table::File;
 

@@ -4,7 +4,7 @@ ghost use Rattle.gtfs_table.specs.Tables.{record_at};
 ghost use Rattle.gtfs_table.specs.declared.file.File.TheVariants as file;
 ghost use Rattle.gtfs_trip_rules.specs.ServiceRows.{weekdays_in};
 ghost use Rattle.gtfs_trip_rules.specs.ServiceFields.{weekdays_at};
-ghost use Rattle.gtfs_trip_rules.specs.ServiceView.{weekday_of};
+ghost use Rattle.gtfs_trip_rules.specs.ServiceCalendars.{weekday_of};
 
 use gtfs_schema::read_choice;
 use gtfs_table::{File, Record, Tables};

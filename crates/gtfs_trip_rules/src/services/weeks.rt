@@ -2,7 +2,7 @@ ghost use Rattle.std.specs.Prelude.{◌≡◌, ℕ, map, IfSome};
 ghost use Rattle.gtfs_days.specs.Service.{IsOrdered};
 ghost use Rattle.gtfs_trip_rules.specs.ServiceRows.{week_in_texts};
 ghost use Rattle.gtfs_trip_rules.specs.ServiceFields.{week_in};
-ghost use Rattle.gtfs_trip_rules.specs.ServiceView.{if_ordered, week_of_rows};
+ghost use Rattle.gtfs_trip_rules.specs.ServiceCalendars.{if_ordered, week_of_rows};
 
 use crate::services::weekdays::Weekdays;
 use gtfs_days::Week;

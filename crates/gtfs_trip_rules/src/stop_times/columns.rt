@@ -3,11 +3,11 @@ ghost use Rattle.gtfs_table.specs.Tables.{record_at};
 ghost use Rattle.gtfs_table.specs.declared.file.File.TheVariants as file;
 ghost use Rattle.gtfs_schema.specs.steps.ColumnView.{kind_of};
 ghost use Rattle.gtfs_trip_rules.specs.KeptRow.{kept_row, row_said, times_of};
-ghost use Rattle.gtfs_trip_rules.specs.Readings.{fault_of, is_fault, value_in};
+ghost use Rattle.gtfs_trip_rules.specs.StopTimeFields.{fault_of, is_fault, value_in};
 ghost use Rattle.gtfs_table.specs.Rows.{records_in};
 ghost use Rattle.gtfs_trip_rules.specs.StopTimes.{stop_time_text, AreStopTimeColumns, IsReading, IsStopTime};
 ghost use Rattle.gtfs_schema.specs.Columns.{id};
-ghost use Rattle.gtfs_schema.specs.Values.{word};
+ghost use Rattle.gtfs_schema.specs.FieldValues.{word};
 
 use crate::stop_times::reading::{
     Reading, read_beside, read_clock, read_drop_off_type, read_number, read_pickup_type,

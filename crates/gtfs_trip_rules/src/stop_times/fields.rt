@@ -1,7 +1,7 @@
 ghost use Rattle.std.specs.Prelude.{◌&&◌, OnOk};
 ghost use Rattle.gtfs_table.specs.declared.file.File.TheVariants as file;
 ghost use Rattle.gtfs_schema.specs.steps.FieldCodes.{is_found_at, is_in_row};
-ghost use Rattle.gtfs_schema.specs.steps.Found.{Adds};
+ghost use Rattle.gtfs_schema.specs.steps.FoundProblems.{Adds};
 ghost use Rattle.gtfs_trip_rules.specs.StopTimes.{fields_report};
 
 use crate::stop_times::columns::{ReadStopTime, StopTimeColumns};

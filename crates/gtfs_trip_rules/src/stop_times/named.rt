@@ -2,11 +2,11 @@ ghost use Rattle.std.specs.Prelude.{◌≡◌, ◌&&◌, ◌∷◌, [], not, is_
 ghost use Rattle.gtfs_table.specs.Tables.{Dataset};
 ghost use Rattle.gtfs_schema.specs.steps.FeedIds.{AreIdsOf};
 ghost use Rattle.gtfs_schema.specs.steps.Ids.{first_row_with, number_with};
-ghost use Rattle.gtfs_trip_rules.specs.Readings.{text_of, value_in};
+ghost use Rattle.gtfs_trip_rules.specs.StopTimeFields.{text_of, value_in};
 ghost use Rattle.gtfs_schema.specs.steps.StopTypes.{type_of, AreStopTypes};
 ghost use Rattle.gtfs_trip_rules.specs.StopTimePicks.{in_names};
 ghost use Rattle.gtfs_trip_rules.specs.StopTimes.{AreNamedRows, IsNamedId, IsRow, ReportsOfRow};
-ghost use Rattle.gtfs_schema.specs.Values.{has_control, if_there, is_one_of};
+ghost use Rattle.gtfs_schema.specs.FieldValues.{has_control, if_there, is_one_of};
 
 use crate::stop_times::columns::ReadStopTime;
 use crate::stop_times::problem;

@@ -1,11 +1,11 @@
 ghost use Rattle.std.specs.Prelude.{◌≡◌, option_map, pos};
 ghost use Rattle.gtfs_schema.specs.Columns.{count, time, up_to};
-ghost use Rattle.gtfs_trip_rules.specs.Readings.{code_in, fault_in, fault_of, is_blank, is_fault, value_in, value_or};
+ghost use Rattle.gtfs_trip_rules.specs.StopTimeFields.{code_in, fault_in, fault_of, is_blank, is_fault, value_in, value_or};
 ghost use Rattle.gtfs_trip_rules.specs.StopTimes.{IsReading};
-ghost use Rattle.gtfs_schema.specs.Values.{amount, readable};
+ghost use Rattle.gtfs_schema.specs.FieldValues.{amount, readable};
 ghost use Rattle.gtfs_table.specs.Rows.{is_empty};
 ghost use Rattle.gtfs_field.specs.Kinds.{count_of};
-ghost use Rattle.gtfs_stop_times.specs.Choices.{drop_off_code, pickup_code, timepoint_code};
+ghost use Rattle.gtfs_stop_times.specs.StopTimeChoices.{drop_off_code, pickup_code, timepoint_code};
 
 use gtfs_field::{Clock, FieldFault, read_count, read_time};
 use gtfs_schema::{Code, are_equal};

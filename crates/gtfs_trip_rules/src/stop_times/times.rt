@@ -1,9 +1,9 @@
 ghost use Rattle.std.specs.Prelude.{◌≡◌, ◌&&◌, int_lt, is_some, option_map, pos, OnOk};
 ghost use Rattle.gtfs_table.specs.Tables.{Dataset};
-ghost use Rattle.gtfs_trip_rules.specs.Readings.{is_blank, value_in};
+ghost use Rattle.gtfs_trip_rules.specs.StopTimeFields.{is_blank, value_in};
 ghost use Rattle.gtfs_trip_rules.specs.StopTimePicks.{in_times};
 ghost use Rattle.gtfs_trip_rules.specs.StopTimes.{IsRow, ReportsOfRow};
-ghost use Rattle.gtfs_schema.specs.Values.{if_both};
+ghost use Rattle.gtfs_schema.specs.FieldValues.{if_both};
 
 use crate::stop_times::columns::ReadStopTime;
 use crate::stop_times::problem;

@@ -1,13 +1,13 @@
 ghost use Rattle.std.specs.Prelude.{◌≡◌, ◌∷◌, [], OnOk};
 ghost use Rattle.gtfs_schema.specs.Columns.{id};
-ghost use Rattle.gtfs_schema.specs.Reads.{word_of};
+ghost use Rattle.gtfs_schema.specs.ReadFields.{word_of};
 ghost use Rattle.gtfs_schema.specs.declared.code.Code.TheVariants as code;
-ghost use Rattle.gtfs_schema.specs.steps.Found.{Reports};
+ghost use Rattle.gtfs_schema.specs.steps.FoundProblems.{Reports};
 ghost use Rattle.gtfs_schema.specs.steps.Ids.{ids_of};
-ghost use Rattle.gtfs_schema.specs.steps.Picks.{of_codes};
+ghost use Rattle.gtfs_schema.specs.steps.KeptColumns.{of_codes};
 ghost use Rattle.gtfs_trip_rules.specs.TripCounts.{are_few};
 ghost use Rattle.gtfs_trip_rules.specs.TripNotes.{trip_notes_in};
-ghost use Rattle.gtfs_schema.specs.Values.{if_there};
+ghost use Rattle.gtfs_schema.specs.FieldValues.{if_there};
 
 use crate::trips::notes::TripNotes;
 use crate::trips::row_counts::RowCounts;

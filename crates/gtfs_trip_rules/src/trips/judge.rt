@@ -1,5 +1,5 @@
 ghost use Rattle.std.specs.Prelude.{◌≡◌, ◌&&◌, ◌∷◌, [], List, false, true};
-ghost use Rattle.gtfs_trip_rules.specs.TripJudged.{as_last, ends_timed, fits, goes_on, is_late, left_of, names_trip, repeats_last, rises, Judges};
+ghost use Rattle.gtfs_trip_rules.specs.JudgedTrips.{as_last, ends_timed, fits, goes_on, is_late, left_of, names_trip, repeats_last, rises, Judges};
 ghost use Rattle.gtfs_stop_times.specs.declared.stop_time.StopTime.{StopTime as StopTimeValue};
 
 use crate::trips::order::is_left_later;

@@ -1,10 +1,10 @@
 ghost use Rattle.std.specs.Prelude.{◌≡◌, ◌∷◌, ◌++◌, [], true, List, ℕ, min, IfOk, OnOk};
 ghost use Rattle.gtfs_schema.specs.IdNumbers.{number_among};
 ghost use Rattle.gtfs_schema.specs.Problems.{Problem as ProblemOf};
-ghost use Rattle.gtfs_schema.specs.steps.Found.{Reports};
+ghost use Rattle.gtfs_schema.specs.steps.FoundProblems.{Reports};
 ghost use Rattle.gtfs_schema.specs.steps.Ids.{ids_of};
 ghost use Rattle.gtfs_table.specs.Tables.{Dataset};
-ghost use Rattle.gtfs_trip_rules.specs.Kept.{AllKeep};
+ghost use Rattle.gtfs_trip_rules.specs.KeptRows.{AllKeep};
 ghost use Rattle.gtfs_stop_times.specs.KeptLists.{HasNoHeadsign};
 ghost use Rattle.gtfs_trip_rules.specs.KeptOrder.{AreKeptOf};
 ghost use Rattle.gtfs_trip_rules.specs.StopTimePicks.{breaks_order};

@@ -2,11 +2,11 @@ ghost use Rattle.std.specs.Prelude.{◌≡◌, ◌+◌, ◌<◌, drop, length, o
 ghost use Rattle.gtfs_table.specs.Tables.{Dataset};
 ghost use Rattle.gtfs_table.specs.declared.file.File.TheVariants as file;
 ghost use Rattle.gtfs_schema.specs.declared.file_name.FileName.TheVariants as file_name;
-ghost use Rattle.gtfs_schema.specs.steps.Found.{Reports};
-ghost use Rattle.gtfs_trip_rules.specs.Kept.{AllKeep};
+ghost use Rattle.gtfs_schema.specs.steps.FoundProblems.{Reports};
+ghost use Rattle.gtfs_trip_rules.specs.KeptRows.{AllKeep};
 ghost use Rattle.gtfs_trip_rules.specs.KeptOrder.{AreKeptOf};
 ghost use Rattle.gtfs_trip_rules.specs.StopTimePicks.{breaks_order};
-ghost use Rattle.gtfs_trip_rules.specs.TripJudged.{ends_trip, is_end_untimed, is_late, is_twin, repeats_last, AddsOfRow};
+ghost use Rattle.gtfs_trip_rules.specs.JudgedTrips.{ends_trip, is_end_untimed, is_late, is_twin, repeats_last, AddsOfRow};
 ghost use Rattle.gtfs_trip_rules.specs.TripNotes.{trip_notes_in};
 ghost use Rattle.gtfs_trip_rules.specs.TripOrder.{is_left_later, AreInOrder};
 

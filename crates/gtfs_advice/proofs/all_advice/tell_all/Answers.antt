@@ -1,6 +1,6 @@
 use Rattle.std.proofs.Common.{◌++◌, append_assoc, subst, sym}
 use Rattle.std.proofs.lemmas.Result.{on_ok_weaker}
-use Rattle.gtfs_rows.specs.Views.{content_of_parts}
+use Rattle.gtfs_rows.specs.RowsInMemory.{content_of_parts}
 use Rattle.gtfs_advice.specs.Advice.{Tells, advice, agency_advice, calendar_advice, end_advice, frequency_advice, gap_advice, route_advice, stop_advice, stop_time_advice, trip_advice}
 use Rattle.gtfs_advice.proofs.Telling.{told-both}
 use Rattle.gtfs_advice.proofs.all_advice.tell_all.Goals as goal

@@ -1,5 +1,5 @@
 use Rattle.std.proofs.Common.{take}
-use Rattle.gtfs_rows.specs.Views.{content_of_parts}
+use Rattle.gtfs_rows.specs.RowsInMemory.{content_of_parts}
 use Rattle.gtfs_advice.specs.Advice.{Tells, advice_on, frequency_rules}
 use Rattle.gtfs_advice.proofs.frequencies.tell_frequencies.Given as goal
 

@@ -3,7 +3,7 @@ use Rattle.std.specs.Prelude.{All}
 use Rattle.std.specs.List.{list_any}
 use Rattle.std.specs.Option.{option_eq}
 use Rattle.std.proofs.lemmas.Result.{IfOk-weaker}
-use Rattle.gtfs_rows.specs.Views.{content_of_parts}
+use Rattle.gtfs_rows.specs.RowsInMemory.{content_of_parts}
 use Rattle.gtfs_advice.specs.declared.named_routes.NamedRoute.{NamedRoute}
 use Rattle.gtfs_advice.specs.NumberMarks.{AreMarks}
 use Rattle.gtfs_advice.specs.NamedRoutes.{AreNamed, neighbours, repeated}

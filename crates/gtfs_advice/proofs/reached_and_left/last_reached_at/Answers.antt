@@ -1,7 +1,7 @@
 use Rattle.std.proofs.Common.{ap, sym, ◌∙◌, None}
 use Rattle.std.specs.Prelude.{option_and_then}
-use Rattle.gtfs_rows.specs.Sound.{comes}
-use Rattle.gtfs_rows.specs.Views.{stop_row_of}
+use Rattle.gtfs_rows.specs.SoundContent.{comes}
+use Rattle.gtfs_rows.specs.RowsInMemory.{stop_row_of}
 use Rattle.gtfs_advice.proofs.Rows.{last_is}
 use Rattle.gtfs_advice.proofs.reached_and_left.last_reached_at.Goals as goal
 

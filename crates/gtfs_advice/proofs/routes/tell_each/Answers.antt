@@ -1,6 +1,6 @@
 use Rattle.gtfs_advice.proofs.RouteFacts.{told}
 use Rattle.gtfs_advice.proofs.Telling.{item_at}
-use Rattle.gtfs_rows.specs.Views.{agency_ids, content_of_parts}
+use Rattle.gtfs_rows.specs.RowsInMemory.{agency_ids, content_of_parts}
 use Rattle.gtfs_advice.proofs.routes.tell_each.Goals as goal
 
 pub loop-number-preserved : goal.loop-number-preserved

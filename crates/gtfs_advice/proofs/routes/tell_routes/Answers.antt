@@ -1,6 +1,6 @@
 use Rattle.std.proofs.Common.{true, false, subst}
 use Rattle.std.specs.Prelude.{OnOk}
-use Rattle.gtfs_rows.specs.Views.{content_of_parts}
+use Rattle.gtfs_rows.specs.RowsInMemory.{content_of_parts}
 use Rattle.gtfs_advice.specs.Advice.{Tells, route_advice}
 use Rattle.gtfs_advice.proofs.RouteFacts.{lent}
 use Rattle.gtfs_advice.proofs.routes.tell_routes.Goals as goal

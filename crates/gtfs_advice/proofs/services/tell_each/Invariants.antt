@@ -1,6 +1,6 @@
 use Rattle.std.proofs.Common.{[], ◌∷◌, take}
 use Rattle.std.specs.Prelude.{◌&&◌}
-use Rattle.gtfs_rows.specs.Views.{content_of_parts}
+use Rattle.gtfs_rows.specs.RowsInMemory.{content_of_parts}
 use Rattle.gtfs_advice.specs.Advice.{Tells, advice_on}
 use Rattle.gtfs_advice.specs.Services.{has_no_trip}
 use Rattle.gtfs_advice.specs.UsedServices.{stands_under}

@@ -1,6 +1,6 @@
 use Rattle.std.proofs.Common.{List, subst}
 use Rattle.std.specs.Prelude.{OnOk}
-use Rattle.gtfs_rows.specs.Views.{content_of_parts}
+use Rattle.gtfs_rows.specs.RowsInMemory.{content_of_parts}
 use Rattle.gtfs_advice.specs.declared.code.Code.{Code}
 use Rattle.gtfs_advice.specs.Advice.{About, Tells}
 use Rattle.gtfs_advice.specs.Services.{has_no_trip}

@@ -1,7 +1,7 @@
 use Rattle.std.proofs.Common.{rules, tests, ◌∙◌, arith}
 use Rattle.std.proofs.lemmas.Iterator.Search.{any_from_yields_List}
 use Rattle.std.proofs.Common.{map}
-use Rattle.gtfs_rows.specs.Views.{stop_row_of}
+use Rattle.gtfs_rows.specs.RowsInMemory.{stop_row_of}
 use Rattle.gtfs_advice.specs.StopTimes.{is_at_one_moment}
 use Rattle.gtfs_advice.proofs.Rows.{six_at_once}
 use Rattle.gtfs_advice.proofs.Windows.{YieldsList-from_windows}

@@ -1,6 +1,6 @@
 use Rattle.std.proofs.Common.{◌∙◌, ◌<◌, ap, length, subst, sym}
 use Rattle.std.proofs.lemmas.Bool.{ltb-true}
-use Rattle.gtfs_rows.specs.Views.{names_stop, stop_ids}
+use Rattle.gtfs_rows.specs.RowsInMemory.{names_stop, stop_ids}
 use Rattle.gtfs_advice.proofs.StopFacts.{far}
 use Rattle.gtfs_advice.proofs.Telling.{item_at}
 use Rattle.gtfs_advice.proofs.stops.is_far_from_parent.Goals as goal

@@ -3,9 +3,9 @@ use Rattle.std.specs.Prelude.{bytes_eq, option_map, position}
 use Rattle.std.proofs.lemmas.Int.{to_z-of_z}
 use Rattle.std.proofs.lemmas.List.{length-map}
 use Rattle.gtfs_schema.proofs.SiteFacts.{text_is}
-use Rattle.gtfs_rows.specs.Views.{text_of_number, trip_ids}
+use Rattle.gtfs_rows.specs.RowsInMemory.{text_of_number, trip_ids}
 use Rattle.gtfs_board.specs.CandidateKeys.{key_among}
-use Rattle.gtfs_board.specs.Lent.{plain_key}
+use Rattle.gtfs_board.specs.LentKeys.{plain_key}
 use Rattle.gtfs_board.specs.declared.upcoming.candidate.Candidate.{Candidate}
 use Rattle.gtfs_runs.proofs.TripIds.{position_at, position_none, trip_ids_ascend}
 use Rattle.gtfs_board.proofs.Floors.{absent_lt, after_lt}

@@ -1,8 +1,8 @@
 use Rattle.std.proofs.Common.{rules, ◌∙◌, sym, w64}
 use Rattle.std.specs.Prelude.{◌≤ℤ◌, ◌<ℤ◌}
 use Rattle.std.proofs.lemmas.Int.{to_z-of_z}
-use Rattle.gtfs_board.specs.Lent.{plain_key}
-use Rattle.gtfs_board.specs.Showing.{candidate_key}
+use Rattle.gtfs_board.specs.LentKeys.{plain_key}
+use Rattle.gtfs_board.specs.ShownCandidates.{candidate_key}
 use Rattle.gtfs_board.proofs.Floors.{above_after, above_before, from_first}
 use Rattle.gtfs_board.proofs.floor.floor_from.Goals as goal
 

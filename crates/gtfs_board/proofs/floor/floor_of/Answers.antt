@@ -2,8 +2,8 @@ use Rattle.std.proofs.Common.{◌∙◌, sym, ap, w64}
 use Rattle.std.specs.Prelude.{option_map}
 use Rattle.std.proofs.lemmas.Int.{to_z-of_z}
 use Rattle.gtfs_board.specs.Floors.{is_from}
-use Rattle.gtfs_board.specs.Lent.{plain_key}
-use Rattle.gtfs_board.specs.Showing.{candidate_key}
+use Rattle.gtfs_board.specs.LentKeys.{plain_key}
+use Rattle.gtfs_board.specs.ShownCandidates.{candidate_key}
 use Rattle.gtfs_board.proofs.Floors.{above_none, from_first}
 use Rattle.gtfs_board.proofs.floor.floor_of.Goals as goal
 

@@ -1,6 +1,6 @@
 use Rattle.std.proofs.Common.{◌≡◌, arith, to_z, of_z, w64}
 use Rattle.std.proofs.lemmas.Int.{ints}
-use Rattle.gtfs_board.specs.Lent.{listed}
+use Rattle.gtfs_board.specs.LentKeys.{listed}
 use Rattle.gtfs_board.proofs.Pages.{line-appended}
 use Rattle.gtfs_board.proofs.line.push_line_by.Goals as goal
 

@@ -1,5 +1,5 @@
 use Rattle.std.proofs.Common.{◌++◌, ◌∙◌, ap, lit<, string_bytes}
-use Rattle.gtfs_board.specs.Lent.{listed}
+use Rattle.gtfs_board.specs.LentKeys.{listed}
 use Rattle.gtfs_board.proofs.Joined.{line-joined}
 use Rattle.gtfs_board.proofs.line.write_line.Goals as goal
 

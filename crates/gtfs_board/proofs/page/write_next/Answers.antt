@@ -1,6 +1,6 @@
 use Rattle.std.proofs.Common.{refl}
 use Rattle.std.proofs.Math.Nat.{le_refl}
-use Rattle.gtfs_board.specs.Lent.{listed}
+use Rattle.gtfs_board.specs.LentKeys.{listed}
 use Rattle.gtfs_board.proofs.Pages.{line-none, line-refused, line-unmade, line-sent, line-cut, on-ok, refused-steps}
 use Rattle.gtfs_board.proofs.page.write_next.Goals as goal
 

@@ -1,6 +1,6 @@
 use Rattle.std.proofs.Common.{◌≡◌, ◌≤◌, ◌-◌}
 use Rattle.gtfs_board.specs.Board.{AreStepsWithin, IsQueued, SameSettings, step_count}
-use Rattle.gtfs_board.specs.Page.{AreWritten}
+use Rattle.gtfs_board.specs.BoardPage.{AreWritten}
 use Rattle.gtfs_board.proofs.page.write_page.Given as goal
 
 abbrev pub invariant-loop-lines : goal.invariant-loop-lines

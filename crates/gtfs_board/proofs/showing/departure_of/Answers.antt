@@ -3,7 +3,7 @@ use Rattle.std.specs.Prelude.{not, slice_get}
 use Rattle.std.proofs.lemmas.Option.{slice_get-get_or}
 use Rattle.gtfs_rows.proofs.NumberFacts.{trip_route}
 use Rattle.gtfs_rows.proofs.TripFacts.{periods}
-use Rattle.gtfs_board.specs.Shown.{mark_if}
+use Rattle.gtfs_board.specs.ShownTrips.{mark_if}
 use Rattle.gtfs_board.proofs.ShownRows.{periods_move, shown_rows, stop_within}
 use Rattle.gtfs_board.proofs.showing.departure_of.Goals as goal
 

@@ -1,6 +1,6 @@
 use Rattle.std.proofs.Common.{◌≡◌, ◌∙◌, List, ℕ, subst}
-use Rattle.gtfs_cli.specs.Sending.{Output, Sends}
-use Rattle.gtfs_cli.specs.Faults.{fault_line}
+use Rattle.gtfs_cli.specs.SentText.{Output, Sends}
+use Rattle.gtfs_cli.specs.WordFaults.{fault_line}
 use Rattle.gtfs_cli.proofs.Told.{sent-so}
 use Rattle.gtfs_cli.proofs.program_end.tell.Goals as goal
 

@@ -1,5 +1,5 @@
 ghost use Rattle.std.specs.Prelude.{◌≡◌, Some, option_map, IfOk, IfErr};
-ghost use Rattle.gtfs_board.specs.Lent.{plain_key};
+ghost use Rattle.gtfs_board.specs.LentKeys.{plain_key};
 ghost use Rattle.gtfs_commands.specs.Words.{texts_of};
 ghost use Rattle.gtfs_cli.specs.LentBoardRequests.{board_request_of, AreBoardValues, request_texts_of};
 ghost use Rattle.gtfs_cli.specs.RefusalOrder.{IsFirstBad};

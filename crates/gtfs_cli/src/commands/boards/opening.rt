@@ -1,6 +1,6 @@
 //! How the board of a request is opened.
 ghost use Rattle.std.specs.Prelude.{◌≡◌, IfErr, IfOk};
-ghost use Rattle.gtfs_rows.specs.Views.{content_of_parts};
+ghost use Rattle.gtfs_rows.specs.RowsInMemory.{content_of_parts};
 ghost use Rattle.gtfs_cli.specs.BoardsCommand.{IsBoardCause};
 ghost use Rattle.gtfs_cli.specs.LentBoardRequests.{board_request_of, stop_request_of};
 ghost use Rattle.gtfs_cli.specs.BoardCommand.{ListsBoard};

@@ -1,7 +1,7 @@
 ghost use Rattle.std.specs.Prelude.{◌≡◌, map, IfOk, IfSome, int_lt, option_map, slice_get};
 ghost use Rattle.std.specs.Option.{option_and_then};
 ghost use Rattle.gtfs_days.specs.Zone.{zone_origin};
-ghost use Rattle.gtfs_rows.specs.Views.{content_of_parts};
+ghost use Rattle.gtfs_rows.specs.RowsInMemory.{content_of_parts};
 ghost use Rattle.gtfs_cli.specs.LentBoardRequests.{request_texts_of, stop_request_of};
 ghost use Rattle.gtfs_cli.specs.BoardOptions.{IsSound, instant_at};
 ghost use Rattle.gtfs_cli.specs.BoardsRequests.{fault_in, fields_of, judged, numbered_from, request_texts, requests_in, stop_request, text_if_any};

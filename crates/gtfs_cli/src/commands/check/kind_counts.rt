@@ -1,10 +1,10 @@
 //! How many problems of a report have the same code, file and column.
 ghost use Rattle.std.specs.Prelude.{◌≡◌, if◌then◌else◌, map, unwrap_or, None, IfOk};
 ghost use Rattle.std.specs.BTreeMap.{get};
-ghost use Rattle.gtfs_schema.specs.View.{problem_of};
+ghost use Rattle.gtfs_schema.specs.ProblemTexts.{problem_of};
 ghost use Rattle.gtfs_schema.specs.declared.problem.Problem.{Problem as Lent};
 ghost use Rattle.gtfs_cli.specs.CheckLines.{count_alike, is_alike};
-ghost use Rattle.gtfs_cli.specs.KindCounts.{held_for, if_any, lent_cmp};
+ghost use Rattle.gtfs_cli.specs.CountsByKind.{held_for, if_any, lent_cmp};
 
 use gtfs_field::OutOfMemory;
 use gtfs_rules::Problem;

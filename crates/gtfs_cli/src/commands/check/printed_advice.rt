@@ -1,11 +1,11 @@
 //! The lines of advice, which a check prints.
 ghost use Rattle.std.specs.Prelude.{◌≡◌, ◌==◌, ◌<◌, ◌∷◌, [], All, false, true, if◌then◌else◌, map, count_by, slice_index_or, slice_set, length, None, Some, IfOk};
-ghost use Rattle.gtfs_rows.specs.Views.{content_of_parts};
+ghost use Rattle.gtfs_rows.specs.RowsInMemory.{content_of_parts};
 ghost use Rattle.gtfs_advice.specs.Advice.{advice, advice_of, IsWithin};
 ghost use Rattle.gtfs_cli.specs.AdviceLines.{advice_line, advice_lines, has_one_code};
 ghost use Rattle.gtfs_advice.specs.Codes.{advice_rank};
 ghost use Rattle.gtfs_cli.specs.FirstOfEachKind.{firsts, if_counted};
-ghost use Rattle.gtfs_cli.specs.Sending.{AreSent};
+ghost use Rattle.gtfs_cli.specs.SentText.{AreSent};
 
 use crate::commands::refusal::Refusal;
 use crate::commands::send::send;

@@ -1,10 +1,10 @@
 //! The lines of problems, which a check prints.
 ghost use Rattle.std.specs.Prelude.{◌≡◌, ◌∷◌, [], None, map, option_map};
-ghost use Rattle.gtfs_schema.specs.View.{problem_of};
+ghost use Rattle.gtfs_schema.specs.ProblemTexts.{problem_of};
 ghost use Rattle.gtfs_commands.specs.Words.{check_texts_of};
 ghost use Rattle.gtfs_cli.specs.CheckLines.{is_alike, line_with, problem_lines, problem_value, shown_line, wanted_value};
 ghost use Rattle.gtfs_cli.specs.FirstOfEachKind.{firsts, if_counted};
-ghost use Rattle.gtfs_cli.specs.Sending.{AreSent};
+ghost use Rattle.gtfs_cli.specs.SentText.{AreSent};
 
 use crate::commands::check::kind_counts::KindCounts;
 use crate::commands::refusal::Refusal;

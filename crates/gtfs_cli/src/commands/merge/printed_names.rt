@@ -1,8 +1,8 @@
 ghost use Rattle.std.specs.Prelude.{Some, flat_map, length};
-ghost use Rattle.gtfs_merge.specs.Near.{near_line};
-ghost use Rattle.gtfs_merge.specs.Report.{kinds};
+ghost use Rattle.gtfs_merge.specs.NearStops.{near_line};
+ghost use Rattle.gtfs_merge.specs.MergeReport.{kinds};
 ghost use Rattle.gtfs_cli.specs.MergeReport.{both_lines, count_line, ids_report, line_text, named_line, names_report, side_lines};
-ghost use Rattle.gtfs_cli.specs.Sending.{IsSent};
+ghost use Rattle.gtfs_cli.specs.SentText.{IsSent};
 
 use crate::commands::refusal::Refusal;
 use crate::commands::send::send;

@@ -3,9 +3,9 @@ ghost use Rattle.std.specs.Io.KnownBytes.{Appends};
 ghost use Rattle.std.specs.List.{position_from};
 ghost use Rattle.gtfs_table.specs.Blanks.{is_control};
 ghost use Rattle.gtfs_devices.specs.Device.{Rises};
-ghost use Rattle.gtfs_schema.specs.Values.{plain};
+ghost use Rattle.gtfs_schema.specs.FieldValues.{plain};
 ghost use Rattle.gtfs_cli.specs.RefusalMessages.{line_of, message, HasLine};
-ghost use Rattle.gtfs_cli.specs.Sending.{SendsBeginning};
+ghost use Rattle.gtfs_cli.specs.SentText.{SendsBeginning};
 
 use crate::commands::refusal::Refusal;
 use gtfs_table::{Out, OutFault, write_text};

@@ -1,14 +1,14 @@
 //! What answers a line that is heard while the program serves.
 ghost use Rattle.std.specs.Prelude.{◌≡◌, option_map, IfErr, IfOk};
-ghost use Rattle.gtfs_rows.specs.Views.{content_of_parts};
-ghost use Rattle.gtfs_board.specs.Page.{IsCutShort, IsPage};
+ghost use Rattle.gtfs_rows.specs.RowsInMemory.{content_of_parts};
+ghost use Rattle.gtfs_board.specs.BoardPage.{IsCutShort, IsPage};
 ghost use Rattle.gtfs_cli.specs.ServeAnswers.{AreFirstLines, IsBeginning, IsCut, IsLinePart, IsLineText, IsPrinted, IsQuestionCause, IsSomeText, IsTextPart, line_for};
 ghost use Rattle.gtfs_cli.specs.LentBoardRequests.{board_request_of, stop_request_of};
 ghost use Rattle.gtfs_cli.specs.BoardCommand.{ListsBoard};
 ghost use Rattle.gtfs_cli.specs.LentServeQuestions.{question_of, IsSoundQuestion};
 ghost use Rattle.gtfs_cli.specs.BoardsCommand.{IsRequestText, IsBoardCause};
 ghost use Rattle.gtfs_cli.specs.BoardOptions.{IsSound};
-ghost use Rattle.gtfs_cli.specs.Sending.{PrintsText};
+ghost use Rattle.gtfs_cli.specs.SentText.{PrintsText};
 
 use crate::commands::board::print_page;
 use crate::commands::boards::{StopRequest, open_request};
@@ -32,7 +32,7 @@ pub(crate) struct Answers<'a> {
 }
 
 impl Answer for Answers<'_> {
-    ghost use Rattle.gtfs_rows.specs.Views.{content_of_parts};
+    ghost use Rattle.gtfs_rows.specs.RowsInMemory.{content_of_parts};
     ghost use Rattle.gtfs_cli.specs.ServeAnswers.{AnswersLine, IsAnswerPart};
 
     ghost is_answer = { λ a. AnswersLine (content_of_parts a.index.now.feed) a.zone.now a.index.now.times };

@@ -1,6 +1,6 @@
 use Rattle.std.proofs.Common.{◌∙◌, ap}
 use Rattle.clap.specs.Words.{found_of}
-use Rattle.gtfs_commands.specs.Asked.{is_from_words}
+use Rattle.gtfs_commands.specs.AskedTexts.{is_from_words}
 use Rattle.gtfs_commands.proofs.Flags.{source-rows}
 use Rattle.gtfs_commands.proofs.read.is_flagged.Goals as goal
 

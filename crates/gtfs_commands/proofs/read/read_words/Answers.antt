@@ -1,7 +1,7 @@
 use Rattle.std.proofs.Common.{map, subst}
 use Rattle.std.specs.Prelude.{IfSome}
 use Rattle.clap.specs.Words.{app_of, kind_of, subcommand_rows_of}
-use Rattle.gtfs_commands.specs.Asked.{IsCommandOf}
+use Rattle.gtfs_commands.specs.AskedTexts.{IsCommandOf}
 use Rattle.gtfs_commands.proofs.GtfsWords.{fault_by, memory_by, read_by, taken_by, whole_by}
 use Rattle.gtfs_commands.proofs.read.read_words.Goals as goal
 

@@ -3,7 +3,7 @@ use Rattle.std.proofs.Math.Seq.{take-suc}
 use Rattle.std.proofs.lemmas.List.{map-append, take_all}
 use Rattle.gtfs_days.specs.Cut.{cut_day}
 use Rattle.gtfs_days.specs.Service.{is_service_day}
-use Rattle.gtfs_rows.specs.Trimmed.{trimmed_by_number}
+use Rattle.gtfs_rows.specs.TrimmedContent.{trimmed_by_number}
 use Rattle.gtfs_feed.proofs.trimmed.trimmed_services.Goals as goal
 
 pub trim-requires : goal.trim-requires

@@ -1,5 +1,5 @@
 use Rattle.std.proofs.Common.{◌≡◌, map, take}
-use Rattle.gtfs_rows.specs.Trimmed.{trimmed_by_number}
+use Rattle.gtfs_rows.specs.TrimmedContent.{trimmed_by_number}
 use Rattle.gtfs_feed.proofs.trimmed.trimmed_services.Given as goal
 
 -- the services so far

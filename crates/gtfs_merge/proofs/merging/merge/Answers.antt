@@ -1,4 +1,4 @@
-use Rattle.gtfs_rows.specs.Views.{content_of_parts}
+use Rattle.gtfs_rows.specs.RowsInMemory.{content_of_parts}
 use Rattle.gtfs_merge.specs.declared.kind.Kind.{Kind}
 use Rattle.gtfs_merge.proofs.CutSides.{keeps-departures}
 use Rattle.gtfs_merge.proofs.Few.{few-enough}

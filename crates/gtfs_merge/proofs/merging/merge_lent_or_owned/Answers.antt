@@ -1,5 +1,5 @@
 use Rattle.std.specs.Cow.{cow_value}
-use Rattle.gtfs_rows.specs.Views.{content_of_parts}
+use Rattle.gtfs_rows.specs.RowsInMemory.{content_of_parts}
 use Rattle.gtfs_merge.proofs.CutMerges.{merged-of-rows, refused-of-rows, zone-told}
 use Rattle.gtfs_merge.proofs.merging.merge_lent_or_owned.Goals as goal
 

@@ -1,5 +1,5 @@
 use Rattle.std.proofs.Common.{◌∙◌, ap, refl, sym, subst, option_map}
-use Rattle.gtfs_nearby.specs.Places.{IsPlaceIfAny}
+use Rattle.gtfs_nearby.specs.PlacedStops.{IsPlacedStopIfAny}
 use Rattle.gtfs_nearby.proofs.Listing.{AreListedSoFar, all-listed, none-listed, none-more, one-listed}
 use Rattle.gtfs_nearby.proofs.listed.by_number.Goals.{in-Some+in_ok-push, in_default}
 use Rattle.gtfs_nearby.proofs.listed.by_number.Goals as goal
@@ -14,7 +14,7 @@ loop-number-preserved c =
     let s = c.index-stops-number.result in
     let old = c.loop-number.listed.items in
     let new = c.match-of.listed.items in
-    let place = IsPlaceIfAny s (option_map (λ m. m.0) s.parent_station) in
+    let place = IsPlacedStopIfAny s (option_map (λ m. m.0) s.parent_station) in
     elim c.match-of.branch [
       | in-Some+in_ok-push w ↦
           one-listed stops n old new s _ c.loop-number-test.true c.index-stops-number.is refl (subst place w.in-Some.is c.of.ensures) (ap (λ v. v.items) w.listed-is ∙ w.in_ok-push.ensures.items) c.loop-number.invariant

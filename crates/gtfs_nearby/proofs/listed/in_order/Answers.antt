@@ -1,7 +1,7 @@
 use Rattle.std.proofs.Common.{rules}
 use Rattle.std.specs.Ordering.{is_lt}
 use Rattle.std.proofs.lemmas.List.Sorted.{answers_always, ranks_by}
-use Rattle.gtfs_nearby.specs.Index.{listed_cmp}
+use Rattle.gtfs_nearby.specs.AreaTree.{listed_cmp}
 use Rattle.gtfs_nearby.proofs.Runs.{listed_total}
 use Rattle.gtfs_nearby.proofs.listed.in_order.Goals as goal
 

@@ -1,5 +1,5 @@
 use Rattle.std.proofs.Common.{◌≡◌, vec_len}
-use Rattle.gtfs_nearby.specs.Index.{AreStillListed}
+use Rattle.gtfs_nearby.specs.AreaTree.{AreStillListed}
 use Rattle.gtfs_nearby.proofs.listed.ranked_by_lon.Given as goal
 
 abbrev pub invariant-loop-rank : goal.invariant-loop-rank

@@ -1,5 +1,5 @@
 use Rattle.std.proofs.Common.{◌+◌, ◌∙◌, arith, min, refl, sym, subst, true≢false}
-use Rattle.gtfs_nearby.specs.Search.{IsLeastOfRun}
+use Rattle.gtfs_nearby.specs.TreeSearch.{IsLeastOfRun}
 use Rattle.gtfs_nearby.proofs.Blocks.{stops}
 use Rattle.gtfs_nearby.proofs.Searches.{one-kept, one-lower, run-more, run-none}
 use Rattle.gtfs_nearby.proofs.search.least_of_all.Goals.{then-one-least+then-has, else-one-least, else-one-least-via-then-one-least+else-has, else-one-least-via-else-one-least}

@@ -1,5 +1,5 @@
 use Rattle.std.proofs.Common.{min}
-use Rattle.gtfs_nearby.specs.Search.{IsLeastOfRun}
+use Rattle.gtfs_nearby.specs.TreeSearch.{IsLeastOfRun}
 use Rattle.gtfs_nearby.proofs.Blocks.{stops}
 use Rattle.gtfs_nearby.proofs.search.least_of_all.Given as goal
 

@@ -1,6 +1,6 @@
 use Rattle.std.proofs.Common.{◌≤◌, length}
-use Rattle.gtfs_nearby.specs.Index.{reach}
-use Rattle.gtfs_nearby.specs.Search.{IsLeastOfRun}
+use Rattle.gtfs_nearby.specs.AreaTree.{reach}
+use Rattle.gtfs_nearby.specs.TreeSearch.{IsLeastOfRun}
 use Rattle.gtfs_nearby.proofs.Searches.{after}
 use Rattle.gtfs_nearby.proofs.search.least_of_run.Given as goal
 

@@ -1,5 +1,5 @@
 use Rattle.std.proofs.Common.{Some, arith, subst}
-use Rattle.gtfs_nearby.specs.Index.{IsJoinedIfAny}
+use Rattle.gtfs_nearby.specs.AreaTree.{IsJoinedIfAny}
 use Rattle.gtfs_nearby.proofs.Trees.{joined-earlier, tree-joined, tree-leaf}
 use Rattle.gtfs_nearby.proofs.tree.grow.Goals as goal
 

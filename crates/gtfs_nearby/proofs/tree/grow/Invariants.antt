@@ -1,4 +1,4 @@
-use Rattle.gtfs_nearby.specs.Index.{IsTree}
+use Rattle.gtfs_nearby.specs.AreaTree.{IsTree}
 use Rattle.gtfs_nearby.proofs.Trees.{latest}
 use Rattle.gtfs_nearby.proofs.tree.grow.Given as goal
 

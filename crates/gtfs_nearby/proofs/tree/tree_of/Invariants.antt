@@ -1,5 +1,5 @@
 use Rattle.std.proofs.Common.{◌*◌, length, min}
-use Rattle.gtfs_nearby.specs.Index.{IsTree}
+use Rattle.gtfs_nearby.specs.AreaTree.{IsTree}
 use Rattle.gtfs_nearby.specs.declared.tree.TheConstants.{LEAF}
 use Rattle.gtfs_nearby.proofs.tree.tree_of.Given as goal
 

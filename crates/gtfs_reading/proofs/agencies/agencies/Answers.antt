@@ -2,8 +2,8 @@ use Rattle.std.proofs.Common.{◌≡◌, ◌∙◌, ap, map, refl, sym}
 use Rattle.gtfs_table.specs.declared.file.File.TheVariants as file
 use Rattle.gtfs_schema.specs.Columns.{id, optional}
 use Rattle.gtfs_schema.specs.steps.Ids.{rows_by_number}
-use Rattle.gtfs_rows.specs.Reading.{agency_in, content_of}
-use Rattle.gtfs_rows.specs.Views.{agency_of}
+use Rattle.gtfs_rows.specs.ContentRead.{agency_in, content_of}
+use Rattle.gtfs_rows.specs.RowsInMemory.{agency_of}
 use Rattle.gtfs_reading.proofs.Filled.{list_filled}
 use Rattle.gtfs_reading.proofs.IdTexts.{content_list}
 use Rattle.gtfs_reading.proofs.agencies.agencies.Goals as goal

@@ -1,7 +1,7 @@
 use Rattle.std.proofs.Common.{◌≡◌, length, map, take}
 use Rattle.gtfs_schema.specs.steps.Ids.{rows_by_number}
-use Rattle.gtfs_rows.specs.Reading.{agency_in}
-use Rattle.gtfs_rows.specs.Views.{agency_of}
+use Rattle.gtfs_rows.specs.ContentRead.{agency_in}
+use Rattle.gtfs_rows.specs.RowsInMemory.{agency_of}
 use Rattle.gtfs_reading.proofs.agencies.push_agencies.Given as goal
 
 -- the rows so far

@@ -1,13 +1,13 @@
 use Rattle.std.proofs.Common.{◌≡◌, ◌∙◌, ℕ, List, ap, codes, length, map, refl, subst, sym}
 use Rattle.std.proofs.lemmas.Simd.{map-map}
-use Rattle.gtfs_table.specs.Parts.{parts}
+use Rattle.gtfs_table.specs.FieldOffsets.{parts}
 use Rattle.gtfs_table.specs.declared.file.File.TheVariants as file
 use Rattle.gtfs_schema.specs.Columns.{id, required}
 use Rattle.gtfs_schema.specs.steps.Ids.{first_rows, ids_of, rows_by_number}
 use Rattle.gtfs_rows.specs.declared.frequency.Frequency.{Frequency as FrequencyRow}
-use Rattle.gtfs_rows.specs.Reading.{content_of, trip_in}
-use Rattle.gtfs_rows.specs.Views.{frequency_of}
-use Rattle.gtfs_reading.specs.Cuts.{IsCutInto}
+use Rattle.gtfs_rows.specs.ContentRead.{content_of, trip_in}
+use Rattle.gtfs_rows.specs.RowsInMemory.{frequency_of}
+use Rattle.gtfs_reading.specs.CutStopTimes.{IsCutInto}
 use Rattle.gtfs_reading.specs.declared.frequencies.TripFrequencies.{TripFrequencies}
 use Rattle.gtfs_reading.proofs.Filled.{filled}
 use Rattle.gtfs_reading.proofs.IdTexts.{content_list}

@@ -2,11 +2,11 @@ use Rattle.std.proofs.Common.{ap, codes, true, ◌∙◌, ◌≡◌}
 use Rattle.std.specs.Prelude.{pos, unsigned_abs, unwrap_or}
 use Rattle.gtfs_table.specs.declared.file.File.TheVariants as file
 use Rattle.gtfs_schema.specs.Columns as kind
-use Rattle.gtfs_schema.specs.Reads.{colour_or}
-use Rattle.gtfs_rows.specs.Reading.{route_in}
-use Rattle.gtfs_reading.specs.Named.{ids_of}
+use Rattle.gtfs_schema.specs.ReadFields.{colour_or}
+use Rattle.gtfs_rows.specs.ContentRead.{route_in}
+use Rattle.gtfs_reading.specs.NamedTexts.{ids_of}
 use Rattle.gtfs_rows.specs.NamedRows.{names_agency, route_named}
-use Rattle.gtfs_reading.specs.Numbers.{number_if_there, number_of}
+use Rattle.gtfs_reading.specs.NumbersOfIds.{number_if_there, number_of}
 use Rattle.gtfs_reading.proofs.Fields.{field_at}
 use Rattle.gtfs_reading.proofs.Filled.{filled}
 use Rattle.gtfs_reading.proofs.ReferenceFacts.{agency_named, agency_within}

@@ -3,8 +3,8 @@ use Rattle.std.specs.List.{list_all}
 use Rattle.gtfs_table.specs.declared.file.File.TheVariants as file
 use Rattle.gtfs_schema.specs.Columns.{id, required}
 use Rattle.gtfs_schema.specs.steps.Ids.{rows_by_number}
-use Rattle.gtfs_rows.specs.Reading.{content_of, route_in}
-use Rattle.gtfs_reading.specs.Named.{ids_of}
+use Rattle.gtfs_rows.specs.ContentRead.{content_of, route_in}
+use Rattle.gtfs_reading.specs.NamedTexts.{ids_of}
 use Rattle.gtfs_rows.specs.NamedRows.{names_agency, route_named}
 use Rattle.gtfs_reading.proofs.Filled.{list_filled}
 use Rattle.gtfs_reading.proofs.IdTexts.{content_list}

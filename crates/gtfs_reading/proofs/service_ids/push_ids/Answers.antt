@@ -2,7 +2,7 @@ use Rattle.std.proofs.Common.{◌++◌, ◌∷◌, [], ℕ, List, ◌∙◌, ap,
 use Rattle.std.proofs.lemmas.List.{map-append}
 use Rattle.gtfs_table.proofs.RowFacts.{all_taken, numbers_more, turn, value_is}
 use Rattle.gtfs_table.specs.Rows.{numbers, records_in}
-use Rattle.gtfs_schema.specs.Rows.{text_in}
+use Rattle.gtfs_schema.specs.RowConditions.{text_in}
 use Rattle.gtfs_reading.proofs.service_ids.push_ids.Goals as goal
 
 pub loop-record-preserved : goal.loop-record-preserved

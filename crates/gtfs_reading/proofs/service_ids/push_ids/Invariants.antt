@@ -1,6 +1,6 @@
 use Rattle.std.proofs.Common.{◌≡◌, ◌++◌, codes, map}
 use Rattle.gtfs_table.specs.Rows.{numbers}
-use Rattle.gtfs_schema.specs.Rows.{text_in}
+use Rattle.gtfs_schema.specs.RowConditions.{text_in}
 use Rattle.gtfs_reading.proofs.service_ids.push_ids.Given as goal
 
 -- the ids of the rows so far

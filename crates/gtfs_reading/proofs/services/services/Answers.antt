@@ -1,8 +1,8 @@
 use Rattle.std.proofs.Common.{◌≡◌, ◌∙◌, map, refl, sym}
 use Rattle.std.specs.Cmp.Lexicographic.{nat_list_cmp_total}
 use Rattle.gtfs_field.specs.TextOrder.{text_cmp}
-use Rattle.gtfs_rows.specs.Reading.{content_of, service_row_in, services_named}
-use Rattle.gtfs_rows.specs.Views.{service_of}
+use Rattle.gtfs_rows.specs.ContentRead.{content_of, service_row_in, services_named}
+use Rattle.gtfs_rows.specs.RowsInMemory.{service_of}
 use Rattle.gtfs_reading.proofs.ByIds.{by_key_made}
 use Rattle.gtfs_reading.proofs.Filled.{list_filled}
 use Rattle.gtfs_reading.proofs.services.services.Goals as goal

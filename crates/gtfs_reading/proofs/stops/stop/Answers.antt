@@ -2,12 +2,12 @@ use Rattle.std.proofs.Common.{[], ap, codes, true, ◌∙◌, ◌∷◌, ◌≡�
 use Rattle.gtfs_field.specs.declared.coord.Axis.TheVariants.{Latitude, Longitude}
 use Rattle.gtfs_table.specs.declared.file.File.TheVariants as file
 use Rattle.gtfs_schema.specs.Columns as kind
-use Rattle.gtfs_schema.specs.Reads.{amount_of}
-use Rattle.gtfs_rows.specs.Reading.{stop_in}
-use Rattle.gtfs_rows.specs.Views.{text_of_number}
-use Rattle.gtfs_reading.specs.Named.{ids_of}
+use Rattle.gtfs_schema.specs.ReadFields.{amount_of}
+use Rattle.gtfs_rows.specs.ContentRead.{stop_in}
+use Rattle.gtfs_rows.specs.RowsInMemory.{text_of_number}
+use Rattle.gtfs_reading.specs.NamedTexts.{ids_of}
 use Rattle.gtfs_rows.specs.NamedRows.{names_parent, stop_named}
-use Rattle.gtfs_reading.specs.Numbers.{chosen}
+use Rattle.gtfs_reading.specs.NumbersOfIds.{chosen}
 use Rattle.gtfs_reading.proofs.Fields.{field_at, numbers_of}
 use Rattle.gtfs_reading.proofs.Filled.{filled}
 use Rattle.gtfs_reading.proofs.ReferenceFacts.{end_within, parent_named}

@@ -1,5 +1,5 @@
 use Rattle.std.proofs.Common.{◌≡◌, IfOk, false, rules, subst, sym}
-use Rattle.gtfs_schema.specs.Values.{has_control}
+use Rattle.gtfs_schema.specs.FieldValues.{has_control}
 use Rattle.gtfs_schema.proofs.PlainTexts.{plain-itself}
 use Rattle.gtfs_reading.proofs.texts.plain.Goals as goal
 

@@ -3,8 +3,8 @@ use Rattle.std.specs.List.{list_all}
 use Rattle.gtfs_table.specs.Rows.{numbers}
 use Rattle.gtfs_table.specs.declared.file.File.TheVariants as file
 use Rattle.gtfs_schema.specs.steps.Ids.{first_rows}
-use Rattle.gtfs_rows.specs.Reading.{transfer_in}
-use Rattle.gtfs_reading.specs.Named.{ids_of}
+use Rattle.gtfs_rows.specs.ContentRead.{transfer_in}
+use Rattle.gtfs_reading.specs.NamedTexts.{ids_of}
 use Rattle.gtfs_rows.specs.TransferEnds.{names_ends, transfer_named}
 use Rattle.gtfs_reading.proofs.transfers.push_in_file_order.Given as goal
 

@@ -2,9 +2,9 @@ use Rattle.std.proofs.Common.{◌∙◌, ◌∷◌, [], ap, codes, refl}
 use Rattle.gtfs_table.specs.declared.file.File.TheVariants as file
 use Rattle.gtfs_schema.specs.Columns as kind
 use Rattle.gtfs_schema.specs.Columns.{id, optional}
-use Rattle.gtfs_rows.specs.Views.{text_of_number}
-use Rattle.gtfs_reading.specs.Named.{ids_of}
-use Rattle.gtfs_reading.specs.Numbers.{chosen, number_if_there}
+use Rattle.gtfs_rows.specs.RowsInMemory.{text_of_number}
+use Rattle.gtfs_reading.specs.NamedTexts.{ids_of}
+use Rattle.gtfs_reading.specs.NumbersOfIds.{chosen, number_if_there}
 use Rattle.gtfs_reading.proofs.Fields.{field_at, numbers_of}
 use Rattle.gtfs_reading.proofs.IdTexts.{none_unknown}
 use Rattle.gtfs_reading.proofs.ReferenceFacts.{end_named, end_within}

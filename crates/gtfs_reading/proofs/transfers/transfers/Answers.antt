@@ -3,7 +3,7 @@ use Rattle.std.specs.List.{list_all}
 use Rattle.std.proofs.lemmas.List.Sorted.{answers_always}
 use Rattle.gtfs_table.specs.declared.file.File.TheVariants as file
 use Rattle.gtfs_schema.specs.steps.Ids.{first_rows}
-use Rattle.gtfs_reading.specs.Named.{ids_of}
+use Rattle.gtfs_reading.specs.NamedTexts.{ids_of}
 use Rattle.gtfs_rows.specs.TransferEnds.{names_ends, transfer_named, transfer_numbers}
 use Rattle.gtfs_reading.proofs.TransferFacts.{all_moved, transfers_sorted}
 use Rattle.gtfs_reading.proofs.transfers.transfers.Goals as goal

@@ -2,8 +2,8 @@ use Rattle.std.proofs.Common.{◌≡◌, codes, length, map, take, true}
 use Rattle.std.specs.List.{list_all}
 use Rattle.gtfs_table.specs.declared.file.File.TheVariants as file
 use Rattle.gtfs_schema.specs.steps.Ids.{first_rows, rows_by_number}
-use Rattle.gtfs_rows.specs.Reading.{trip_in}
-use Rattle.gtfs_reading.specs.Named.{ids_of}
+use Rattle.gtfs_rows.specs.ContentRead.{trip_in}
+use Rattle.gtfs_reading.specs.NamedTexts.{ids_of}
 use Rattle.gtfs_rows.specs.NamedRows.{names_route_and_service, trip_named, without_rows}
 use Rattle.gtfs_reading.specs.ServiceIds.{service_ids}
 use Rattle.gtfs_reading.proofs.trips.push_trips.Given as goal

@@ -2,11 +2,11 @@ use Rattle.std.proofs.Common.{[], ap, codes, refl, true, ◌∙◌, ◌∷◌, �
 use Rattle.std.specs.Prelude.{unwrap_or}
 use Rattle.gtfs_table.specs.declared.file.File.TheVariants as file
 use Rattle.gtfs_schema.specs.Columns as kind
-use Rattle.gtfs_rows.specs.Reading.{trip_in}
-use Rattle.gtfs_rows.specs.Views.{text_of_number}
-use Rattle.gtfs_reading.specs.Named.{ids_of}
+use Rattle.gtfs_rows.specs.ContentRead.{trip_in}
+use Rattle.gtfs_rows.specs.RowsInMemory.{text_of_number}
+use Rattle.gtfs_reading.specs.NamedTexts.{ids_of}
 use Rattle.gtfs_rows.specs.NamedRows.{names_route_and_service, trip_named, without_rows}
-use Rattle.gtfs_reading.specs.Numbers.{chosen, number_if_there}
+use Rattle.gtfs_reading.specs.NumbersOfIds.{chosen, number_if_there}
 use Rattle.gtfs_reading.specs.ServiceIds.{service_ids}
 use Rattle.gtfs_reading.proofs.Fields.{field_at}
 use Rattle.gtfs_reading.proofs.Filled.{filled}

@@ -4,8 +4,8 @@ use Rattle.std.proofs.lemmas.Simd.{map-map}
 use Rattle.gtfs_table.specs.declared.file.File.TheVariants as file
 use Rattle.gtfs_schema.specs.Columns.{id, required}
 use Rattle.gtfs_schema.specs.steps.Ids.{first_rows, rows_by_number}
-use Rattle.gtfs_rows.specs.Reading.{content_of, trip_in}
-use Rattle.gtfs_reading.specs.Named.{ids_of}
+use Rattle.gtfs_rows.specs.ContentRead.{content_of, trip_in}
+use Rattle.gtfs_reading.specs.NamedTexts.{ids_of}
 use Rattle.gtfs_rows.specs.NamedRows.{names_route_and_service, trip_named, without_rows}
 use Rattle.gtfs_reading.specs.ServiceIds.{service_ids}
 use Rattle.gtfs_reading.proofs.Filled.{list_filled}

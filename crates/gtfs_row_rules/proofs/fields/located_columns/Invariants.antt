@@ -1,5 +1,5 @@
 use Rattle.std.proofs.Common.{◌≡◌, map}
-use Rattle.gtfs_row_rules.specs.HeaderView.{located_of}
+use Rattle.gtfs_row_rules.specs.HeaderColumns.{located_of}
 use Rattle.gtfs_table.specs.Rows.{records_in}
 use Rattle.gtfs_row_rules.proofs.LocatedFacts.{located_so_far}
 use Rattle.gtfs_row_rules.proofs.fields.located_columns.Given as goal

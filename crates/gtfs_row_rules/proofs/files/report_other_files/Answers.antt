@@ -1,7 +1,7 @@
 use Rattle.std.proofs.Common.{◌<◌, ℕ, List, get_or, length, sym, ap, ◌∙◌, arith}
 use Rattle.std.specs.Prelude.{bytes_eq}
 use Rattle.std.proofs.lemmas.List.Folds.{list_any_at}
-use Rattle.gtfs_schema.specs.steps.Found.{is_same}
+use Rattle.gtfs_schema.specs.steps.FoundProblems.{is_same}
 use Rattle.gtfs_schema.proofs.EachFacts.{each_done, each_more}
 use Rattle.gtfs_row_rules.proofs.FileFacts.{asked, other_problem, others_reported}
 use Rattle.gtfs_schema.proofs.SiteFacts.{text_itself}

@@ -1,5 +1,5 @@
 use Rattle.std.proofs.Common.{take}
-use Rattle.gtfs_schema.specs.steps.Found.{is_same, Reports}
+use Rattle.gtfs_schema.specs.steps.FoundProblems.{is_same, Reports}
 use Rattle.gtfs_schema.proofs.EachFacts.{of_any}
 use Rattle.gtfs_row_rules.proofs.FileFacts.{other_problem}
 use Rattle.gtfs_row_rules.proofs.files.report_other_files.Given as goal

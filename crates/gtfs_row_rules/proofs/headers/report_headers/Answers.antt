@@ -1,5 +1,5 @@
 use Rattle.std.proofs.Common.{◌∷◌, [], refl, arith}
-use Rattle.gtfs_table.specs.Reading.{kept_files}
+use Rattle.gtfs_table.specs.TablesRead.{kept_files}
 use Rattle.gtfs_table.specs.declared.file.File.TheVariants as file
 use Rattle.gtfs_schema.specs.declared.code.Code.TheVariants as code
 use Rattle.gtfs_schema.specs.steps.FieldCodes.{in_file_of}

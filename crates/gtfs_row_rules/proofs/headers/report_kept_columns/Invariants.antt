@@ -1,6 +1,6 @@
 use Rattle.std.proofs.Common.{take}
 use Rattle.gtfs_schema.specs.steps.ColumnView.{column_of}
-use Rattle.gtfs_schema.specs.steps.Found.{Reports}
+use Rattle.gtfs_schema.specs.steps.FoundProblems.{Reports}
 use Rattle.gtfs_schema.proofs.EachFacts.{of_any}
 use Rattle.gtfs_row_rules.proofs.HeaderFacts.{of_column}
 use Rattle.gtfs_row_rules.proofs.headers.report_kept_columns.Given as goal

@@ -2,8 +2,8 @@ use Rattle.std.proofs.Common.{◌≡◌, ◌<◌, [], get_or, length, sym, ap, �
 use Rattle.std.specs.Prelude.{◌&&◌, bytes_eq, not}
 use Rattle.std.proofs.lemmas.List.Folds.{list_any_at}
 use Rattle.gtfs_schema.specs.declared.code.Code.TheVariants as code
-use Rattle.gtfs_schema.specs.steps.Picks.{at_column}
-use Rattle.gtfs_schema.specs.Rows.{header, is_kept_column}
+use Rattle.gtfs_schema.specs.steps.KeptColumns.{at_column}
+use Rattle.gtfs_schema.specs.RowConditions.{header, is_kept_column}
 use Rattle.gtfs_table.specs.Rows.{records_in, is_empty}
 use Rattle.gtfs_schema.proofs.EachFacts.{each_done, each_more}
 use Rattle.gtfs_row_rules.proofs.FileFacts.{asked}

@@ -1,8 +1,8 @@
 use Rattle.std.proofs.Common.{take}
 use Rattle.gtfs_schema.specs.declared.code.Code.TheVariants as code
-use Rattle.gtfs_schema.specs.steps.Found.{Reports}
-use Rattle.gtfs_schema.specs.steps.Picks.{at_column}
-use Rattle.gtfs_schema.specs.Rows.{header}
+use Rattle.gtfs_schema.specs.steps.FoundProblems.{Reports}
+use Rattle.gtfs_schema.specs.steps.KeptColumns.{at_column}
+use Rattle.gtfs_schema.specs.RowConditions.{header}
 use Rattle.gtfs_table.specs.Rows.{records_in}
 use Rattle.gtfs_schema.proofs.EachFacts.{of_any}
 use Rattle.gtfs_row_rules.proofs.headers.report_other_columns.Given as goal

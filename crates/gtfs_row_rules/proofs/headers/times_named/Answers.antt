@@ -1,7 +1,7 @@
 use Rattle.std.proofs.Common.{◌≡◌, ◌+◌, ◌<◌, [], get_or, length, sym, ap, ◌∙◌, arith}
 use Rattle.std.specs.Prelude.{bytes_eq}
 use Rattle.std.proofs.lemmas.List.Sums.{count_by_more_no, count_by_more_yes}
-use Rattle.gtfs_schema.specs.Rows.{header}
+use Rattle.gtfs_schema.specs.RowConditions.{header}
 use Rattle.gtfs_table.specs.Rows.{records_in}
 use Rattle.gtfs_schema.proofs.NamedFacts.{text_turned}
 use Rattle.gtfs_row_rules.proofs.HeaderFacts.{header_at, header_length}

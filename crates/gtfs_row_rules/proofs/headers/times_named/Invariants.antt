@@ -1,6 +1,6 @@
 use Rattle.std.proofs.Common.{◌≡◌, take}
 use Rattle.std.specs.Prelude.{bytes_eq, count_by}
-use Rattle.gtfs_schema.specs.Rows.{header}
+use Rattle.gtfs_schema.specs.RowConditions.{header}
 use Rattle.gtfs_table.specs.Rows.{records_in}
 use Rattle.gtfs_row_rules.proofs.headers.times_named.Given as goal
 

@@ -1,6 +1,6 @@
 use Rattle.std.proofs.Common.{◌∙◌, refl}
 use Rattle.gtfs_table.specs.Tables.{field_under}
-use Rattle.gtfs_row_rules.specs.KeyView.{key_at, numbered_in, numbered_key}
+use Rattle.gtfs_row_rules.specs.RowKeys.{key_at, numbered_in, numbered_key}
 use Rattle.gtfs_row_rules.proofs.KeySteps.{numbered_found, same_keys}
 use Rattle.gtfs_row_rules.proofs.keys.repeated_numbered.Goals as goal
 

@@ -3,8 +3,8 @@ use Rattle.std.specs.Prelude.{is_some}
 use Rattle.gtfs_table.specs.Rows.{is_row, records_in}
 use Rattle.gtfs_table.specs.Tables.{field_under, record_at}
 use Rattle.gtfs_table.specs.declared.file.File.TheVariants as file
-use Rattle.gtfs_schema.specs.Reads.{is_id}
-use Rattle.gtfs_schema.specs.Rows.{row_with, text_in}
+use Rattle.gtfs_schema.specs.ReadFields.{is_id}
+use Rattle.gtfs_schema.specs.RowConditions.{row_with, text_in}
 use Rattle.gtfs_schema.specs.steps.Ids.{first_rows, FirstRows}
 use Rattle.gtfs_schema.specs.steps.UnknownIds.{is_unknown_in_both}
 use Rattle.gtfs_schema.proofs.IdFacts.{first_row_is}

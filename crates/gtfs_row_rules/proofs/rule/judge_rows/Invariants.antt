@@ -1,6 +1,6 @@
 use Rattle.std.proofs.Common.{◌≡◌}
 use Rattle.gtfs_table.specs.Rows.{numbers}
-use Rattle.gtfs_schema.specs.steps.Found.{Reports}
+use Rattle.gtfs_schema.specs.steps.FoundProblems.{Reports}
 use Rattle.gtfs_schema.proofs.RowFacts.{at_rows}
 use Rattle.gtfs_row_rules.proofs.rule.judge_rows.Given as goal
 

@@ -2,7 +2,7 @@ use Rattle.std.proofs.Common.{ap, codes}
 use Rattle.gtfs_table.specs.Tables.{field_under, record_at}
 use Rattle.gtfs_table.specs.declared.file.File.TheVariants as file
 use Rattle.gtfs_table.specs.Rows.{is_row, records_in}
-use Rattle.gtfs_schema.specs.Rows.{text_in}
+use Rattle.gtfs_schema.specs.RowConditions.{text_in}
 use Rattle.gtfs_row_rules.proofs.StopKindFacts.{parent_reported}
 use Rattle.gtfs_row_rules.proofs.stop_kinds.has_other_parent.Goals as goal
 

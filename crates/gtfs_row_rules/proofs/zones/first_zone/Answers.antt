@@ -5,8 +5,8 @@ use Rattle.gtfs_table.specs.declared.file.File.TheVariants as file
 use Rattle.gtfs_table.proofs.RowFacts.{all_taken, first_row, no_row_yet, turn}
 use Rattle.gtfs_table.proofs.RowFacts.{value_is}
 use Rattle.gtfs_schema.specs.Columns.{id}
-use Rattle.gtfs_schema.specs.Reads.{word_of}
-use Rattle.gtfs_schema.specs.Rows.{word_in}
+use Rattle.gtfs_schema.specs.ReadFields.{word_of}
+use Rattle.gtfs_schema.specs.RowConditions.{word_in}
 use Rattle.gtfs_row_rules.proofs.ZoneFacts.{has_zone, has_zone_is, no_zone, zone_here}
 use Rattle.gtfs_row_rules.proofs.zones.first_zone.Goals as goal
 

@@ -1,6 +1,6 @@
 use Rattle.std.proofs.Common.{List, subst}
-use Rattle.gtfs_schema.specs.steps.Found.{Reports}
-use Rattle.gtfs_rules.specs.steps.Parts.{every}
+use Rattle.gtfs_schema.specs.steps.FoundProblems.{Reports}
+use Rattle.gtfs_rules.specs.steps.PartsOfCheck.{every}
 use Rattle.gtfs_schema.specs.Problems.{Problem}
 use Rattle.gtfs_rules.proofs.CompleteFacts.{all_picked}
 use Rattle.gtfs_schema.proofs.ReportingFacts.{reports_all}

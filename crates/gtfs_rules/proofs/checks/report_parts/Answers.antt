@@ -1,4 +1,4 @@
-use Rattle.gtfs_rules.specs.steps.Parts.{in_files, in_periods_and_services, in_trips}
+use Rattle.gtfs_rules.specs.steps.PartsOfCheck.{in_files, in_periods_and_services, in_trips}
 use Rattle.gtfs_schema.proofs.ReportingFacts.{reports_four}
 use Rattle.gtfs_row_rules.specs.RowCodes.{in_rows}
 use Rattle.gtfs_rules.proofs.checks.report_parts.Goals as goal

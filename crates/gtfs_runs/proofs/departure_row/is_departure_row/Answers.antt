@@ -3,7 +3,7 @@ use Rattle.std.specs.Prelude.{nat_lt}
 use Rattle.std.proofs.lemmas.Bool.{lt-ltb, le-ltb}
 use Rattle.std.proofs.lemmas.List.{get_or_default}
 use Rattle.gtfs_stop_times.specs.declared.stop_row.StopRow.{StopRow}
-use Rattle.gtfs_rows.specs.Views.{stop_row_of}
+use Rattle.gtfs_rows.specs.RowsInMemory.{stop_row_of}
 use Rattle.gtfs_rows.specs.Runs.{allows_boarding, is_timed}
 use Rattle.gtfs_runs.proofs.DepartureFacts.{not_last, departs, ends}
 use Rattle.gtfs_runs.proofs.departure_row.is_departure_row.Goals as goal

@@ -1,7 +1,7 @@
 use Rattle.std.proofs.Common.{◌≤◌, ◌∙◌, length, cond, ap, arith}
-use Rattle.gtfs_rows.specs.Views.{stop_ids, text_of_number}
+use Rattle.gtfs_rows.specs.RowsInMemory.{stop_ids, text_of_number}
 use Rattle.gtfs_times.specs.TimedRows.{timed_parts}
-use Rattle.gtfs_runs.specs.Counts.{tally}
+use Rattle.gtfs_runs.specs.Tallies.{tally}
 use Rattle.gtfs_runs.specs.FlatEvents.{is_event_of, is_served}
 use Rattle.gtfs_runs.proofs.ContentRows.{members_length}
 use Rattle.gtfs_runs.proofs.RowEvents.{trip_known}

@@ -1,6 +1,6 @@
 use Rattle.std.proofs.Common.{◌≡◌, ◌&&◌, ℕ, cond, nat_lt}
 use Rattle.gtfs_times.specs.TimedRows.{timed_parts}
-use Rattle.gtfs_runs.specs.Counts.{tally}
+use Rattle.gtfs_runs.specs.Tallies.{tally}
 use Rattle.gtfs_runs.specs.FlatEvents.{is_event_of, is_served}
 use Rattle.gtfs_runs.specs.declared.event.Event.{Event}
 use Rattle.gtfs_runs.proofs.flat.gathered.Given as goal

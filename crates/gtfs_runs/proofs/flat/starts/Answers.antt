@@ -1,7 +1,7 @@
 use Rattle.std.proofs.Common.{◌<◌, ◌∙◌, length, sym, ap, arith}
 use Rattle.std.proofs.lemmas.Bool.{eqb-false}
 use Rattle.std.proofs.lemmas.List.{take_all}
-use Rattle.gtfs_runs.specs.Counts.{tally}
+use Rattle.gtfs_runs.specs.Tallies.{tally}
 use Rattle.gtfs_runs.proofs.RunStarts as period
 use Rattle.gtfs_runs.proofs.Pushes.{none-made}
 use Rattle.gtfs_runs.proofs.flat.starts.Goals as goal

@@ -1,7 +1,7 @@
 use Rattle.std.proofs.Common.{rules}
 use Rattle.std.specs.Ordering.{is_lt}
 use Rattle.std.proofs.lemmas.List.Sorted.{answers_always, ranks_by}
-use Rattle.gtfs_runs.specs.steps.Groups.{grouped_cmp}
+use Rattle.gtfs_runs.specs.steps.TripGroups.{grouped_cmp}
 use Rattle.gtfs_runs.proofs.Numbers.{grouped_total}
 use Rattle.gtfs_runs.proofs.grouped_trip.by_group.Goals as goal
 

@@ -1,6 +1,6 @@
 use Rattle.std.proofs.Common.{◌∙◌}
 use Rattle.gtfs_runs.proofs.PlaceFacts.{place_at, itself, by_parent, neither}
-use Rattle.gtfs_rows.specs.Choices.{location_code}
+use Rattle.gtfs_rows.specs.RowChoices.{location_code}
 use Rattle.gtfs_runs.proofs.place.is_in_place.Goals as goal
 
 pub returns-then-stop-place : goal.returns-then-stop-place

@@ -1,7 +1,7 @@
 use Rattle.std.proofs.Common.{◌∙◌, ap, map}
 use Rattle.gtfs_table.proofs.RowFacts.{all_taken, listed_more, turn, value_is}
 use Rattle.gtfs_table.specs.Rows.{records_in}
-use Rattle.gtfs_schema.specs.Rows.{text_in}
+use Rattle.gtfs_schema.specs.RowConditions.{text_in}
 use Rattle.gtfs_schema.specs.steps.IdRows.{id_and_row}
 use Rattle.gtfs_schema.proofs.IdFacts.{lists_first}
 use Rattle.gtfs_schema.proofs.ids.id_rows.Goals as goal

@@ -1,6 +1,6 @@
 use Rattle.std.proofs.Common.{◌≡◌, map}
 use Rattle.gtfs_table.specs.Rows.{numbers}
-use Rattle.gtfs_schema.specs.Rows.{text_in}
+use Rattle.gtfs_schema.specs.RowConditions.{text_in}
 use Rattle.gtfs_schema.specs.steps.IdRows.{id_and_row}
 use Rattle.gtfs_schema.proofs.ids.id_rows.Given as goal
 

@@ -1,6 +1,6 @@
 use Rattle.std.proofs.Common.{◌≡◌, ◌<◌, ℕ, [], ◌+◌, arith, refl}
 use Rattle.gtfs_table.specs.declared.file.File.TheVariants as file
-use Rattle.gtfs_schema.specs.Rows.{choice_in}
+use Rattle.gtfs_schema.specs.RowConditions.{choice_in}
 use Rattle.gtfs_schema.specs.steps.StopTypes.{type_of}
 use Rattle.gtfs_schema.proofs.StopTypeFacts.{long_more, types_all, types_more}
 use Rattle.gtfs_schema.proofs.location_types.stop_types.Goals as goal

@@ -1,6 +1,6 @@
 use Rattle.std.proofs.Common.{◌≡◌, ℕ, ◌+◌, ◌<◌, length}
 use Rattle.gtfs_table.specs.declared.file.File.TheVariants as file
-use Rattle.gtfs_schema.specs.Rows.{choice_in}
+use Rattle.gtfs_schema.specs.RowConditions.{choice_in}
 use Rattle.gtfs_schema.specs.steps.StopTypes.{type_of}
 use Rattle.gtfs_schema.proofs.location_types.stop_types.Given as goal
 

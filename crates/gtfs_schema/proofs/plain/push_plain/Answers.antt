@@ -1,6 +1,6 @@
 use Rattle.std.proofs.Common.{◌∙◌, ap, sym, ◌++◌, append_assoc, arith, string_bytes}
 use Rattle.std.specs.Prelude.{encode_utf8}
-use Rattle.gtfs_schema.specs.Values.{plain}
+use Rattle.gtfs_schema.specs.FieldValues.{plain}
 use Rattle.gtfs_schema.proofs.PlainTexts.{length-past, plain-past}
 use Rattle.gtfs_schema.proofs.plain.push_plain.Goals as goal
 

@@ -1,6 +1,6 @@
 use Rattle.std.proofs.Common.{◌≡◌, ◌++◌, ◌+◌, ◌≤◌, length, string_bytes, string_len}
 use Rattle.std.specs.String.{string_capacity}
-use Rattle.gtfs_schema.specs.Values.{plain}
+use Rattle.gtfs_schema.specs.FieldValues.{plain}
 use Rattle.gtfs_schema.proofs.plain.push_plain.Given as goal
 
 abbrev pub invariant-loop-character : goal.invariant-loop-character

@@ -1,7 +1,7 @@
 use Rattle.std.proofs.Common.{◌<◌, ◌∙◌, [], ap, length, map, subst, sym}
 use Rattle.std.proofs.lemmas.List.{get_or-map}
-use Rattle.gtfs_stop_times.specs.ByTrip.{rows_in}
-use Rattle.gtfs_stop_times.specs.Joined.{IsTripOf, list_of}
+use Rattle.gtfs_stop_times.specs.StopTimesByTrip.{rows_in}
+use Rattle.gtfs_stop_times.specs.JoinedStopTimes.{IsTripOf, list_of}
 use Rattle.gtfs_stop_times.proofs.RangeFacts.{in-second}
 use Rattle.gtfs_stop_times.proofs.joined.range_of.Goals as goal
 

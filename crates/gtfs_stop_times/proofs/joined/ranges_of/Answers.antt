@@ -1,7 +1,7 @@
 use Rattle.std.proofs.Common.{◌≡◌, ◌+◌, ◌-◌, ◌++◌, ◌∷◌, ◌∙◌, [], ap, arith, map, subst, sym, take}
 use Rattle.std.proofs.lemmas.List.{map_push, take_more}
-use Rattle.gtfs_stop_times.specs.ByTrip.{AreCounted, rows_in}
-use Rattle.gtfs_stop_times.specs.Joined.{list_of}
+use Rattle.gtfs_stop_times.specs.StopTimesByTrip.{AreCounted, rows_in}
+use Rattle.gtfs_stop_times.specs.JoinedStopTimes.{list_of}
 use Rattle.gtfs_stop_times.proofs.RangeFacts.{one-more}
 use Rattle.gtfs_stop_times.proofs.joined.ranges_of.Goals as goal
 

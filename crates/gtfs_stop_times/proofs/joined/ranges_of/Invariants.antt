@@ -1,6 +1,6 @@
 use Rattle.std.proofs.Common.{◌≡◌, ◌++◌, map, take}
-use Rattle.gtfs_stop_times.specs.ByTrip.{AreCounted, rows_in}
-use Rattle.gtfs_stop_times.specs.Joined.{list_of}
+use Rattle.gtfs_stop_times.specs.StopTimesByTrip.{AreCounted, rows_in}
+use Rattle.gtfs_stop_times.specs.JoinedStopTimes.{list_of}
 use Rattle.gtfs_stop_times.proofs.joined.ranges_of.Given as goal
 
 -- the ranges so far are those of the trips so far, with so many rows

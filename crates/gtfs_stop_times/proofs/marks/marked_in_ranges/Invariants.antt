@@ -1,6 +1,6 @@
 use Rattle.std.proofs.Common.{◌≡◌, map, take}
 use Rattle.std.specs.List.{list_any}
-use Rattle.gtfs_stop_times.specs.ByTrip.{items_in}
+use Rattle.gtfs_stop_times.specs.StopTimesByTrip.{items_in}
 use Rattle.gtfs_stop_times.proofs.marks.marked_in_ranges.Given as goal
 
 -- the ranges so far were asked

@@ -1,6 +1,6 @@
 use Rattle.std.proofs.Common.{◌≡◌, map, take}
 use Rattle.std.specs.List.{list_any}
-use Rattle.gtfs_table.specs.Parts.{parts}
+use Rattle.gtfs_table.specs.FieldOffsets.{parts}
 use Rattle.gtfs_stop_times.proofs.marks.marked_in_turn.Given as goal
 
 -- the trips so far were asked

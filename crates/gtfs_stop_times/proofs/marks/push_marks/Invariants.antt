@@ -1,5 +1,5 @@
 use Rattle.std.proofs.Common.{◌≡◌, ◌++◌, map, take}
-use Rattle.gtfs_stop_times.specs.ByTrip.{is_at}
+use Rattle.gtfs_stop_times.specs.StopTimesByTrip.{is_at}
 use Rattle.gtfs_stop_times.proofs.marks.push_marks.Given as goal
 
 -- the rows so far are marked

@@ -1,5 +1,5 @@
 use Rattle.std.proofs.Common.{◌≡◌, take}
-use Rattle.gtfs_stop_times.specs.Headsigned.{rows_at}
+use Rattle.gtfs_stop_times.specs.HeadsignedRows.{rows_at}
 use Rattle.gtfs_stop_times.proofs.ranges.in_order.Given as goal
 
 -- the rows so far

@@ -2,10 +2,10 @@ use Rattle.std.proofs.Common.{◌≡◌, ◌+◌, ◌-◌, ◌∙◌, Some, [], 
 use Rattle.std.specs.Prelude.{slice_get}
 use Rattle.std.proofs.lemmas.List.{take_all}
 use Rattle.std.proofs.lemmas.Option.{slice_get-get_or}
-use Rattle.gtfs_stop_times.specs.ByTrip.{AreWithin}
-use Rattle.gtfs_table.specs.Parts.{parts}
+use Rattle.gtfs_stop_times.specs.StopTimesByTrip.{AreWithin}
+use Rattle.gtfs_table.specs.FieldOffsets.{parts}
 use Rattle.gtfs_table.proofs.PartFacts.{length-parts, part-at, part-bounds}
-use Rattle.gtfs_stop_times.specs.Headsigned.{numbers_in}
+use Rattle.gtfs_stop_times.specs.HeadsignedRows.{numbers_in}
 use Rattle.gtfs_stop_times.proofs.ByTripFacts.{one-within, part-more}
 use Rattle.gtfs_stop_times.proofs.ranges.ranges.Goals as goal
 

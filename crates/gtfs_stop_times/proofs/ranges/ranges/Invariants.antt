@@ -1,8 +1,8 @@
 use Rattle.std.proofs.Common.{◌≡◌, ◌<◌, ℕ, map, take}
 use Rattle.std.specs.List.{All}
-use Rattle.gtfs_stop_times.specs.ByTrip.{AreWithin}
-use Rattle.gtfs_table.specs.Parts.{parts}
-use Rattle.gtfs_stop_times.specs.Headsigned.{numbers_in}
+use Rattle.gtfs_stop_times.specs.StopTimesByTrip.{AreWithin}
+use Rattle.gtfs_table.specs.FieldOffsets.{parts}
+use Rattle.gtfs_stop_times.specs.HeadsignedRows.{numbers_in}
 use Rattle.gtfs_stop_times.proofs.ranges.ranges.Given as goal
 
 -- the ranges of the trips so far

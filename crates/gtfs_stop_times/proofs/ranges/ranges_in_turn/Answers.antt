@@ -1,9 +1,9 @@
 use Rattle.std.proofs.Common.{◌≡◌, ◌<◌, ◌≤◌, ◌+◌, ◌++◌, ◌∷◌, ◌∙◌, [], ap, arith, get_or, length, map, subst, sym}
 use Rattle.std.proofs.lemmas.List.{map_push, take_all, take_more}
 use Rattle.std.proofs.lemmas.List.Elements.{All-push}
-use Rattle.gtfs_table.specs.Parts.{parts}
+use Rattle.gtfs_table.specs.FieldOffsets.{parts}
 use Rattle.gtfs_table.proofs.PartFacts.{length-parts, part-at, part-bounds}
-use Rattle.gtfs_stop_times.specs.ByTrip.{AreWithin, rows_in}
+use Rattle.gtfs_stop_times.specs.StopTimesByTrip.{AreWithin, rows_in}
 use Rattle.gtfs_stop_times.specs.declared.by_trip.RowRange.{RowRange}
 use Rattle.gtfs_stop_times.proofs.ranges.ranges_in_turn.Goals as goal
 

@@ -1,6 +1,6 @@
 use Rattle.std.proofs.Common.{◌≡◌, length, map, take}
-use Rattle.gtfs_table.specs.Parts.{parts}
-use Rattle.gtfs_stop_times.specs.ByTrip.{AreWithin, rows_in}
+use Rattle.gtfs_table.specs.FieldOffsets.{parts}
+use Rattle.gtfs_stop_times.specs.StopTimesByTrip.{AreWithin, rows_in}
 use Rattle.gtfs_stop_times.proofs.ranges.ranges_in_turn.Given as goal
 
 -- the ranges so far are those of the trips so far

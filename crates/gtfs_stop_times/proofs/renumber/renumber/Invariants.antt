@@ -1,5 +1,5 @@
 use Rattle.std.proofs.Common.{◌≡◌, ◌++◌, drop, map, take}
-use Rattle.gtfs_stop_times.specs.Renumbered.{renumbered_row}
+use Rattle.gtfs_stop_times.specs.RenumberedRows.{renumbered_row}
 use Rattle.gtfs_stop_times.proofs.renumber.renumber.Given as goal
 
 -- the rows so far have their new numbers

@@ -1,6 +1,6 @@
 use Rattle.std.proofs.Common.{◌≡◌, ◌++◌}
 use Rattle.std.specs.Prelude.{filter, not}
-use Rattle.gtfs_table.specs.Reading.{is_kept}
+use Rattle.gtfs_table.specs.TablesRead.{is_kept}
 use Rattle.gtfs_table.proofs.tables.other_names.Given as goal
 
 abbrev pub invariant-loop-name : goal.invariant-loop-name

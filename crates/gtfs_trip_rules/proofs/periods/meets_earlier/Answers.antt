@@ -2,7 +2,7 @@ use Rattle.std.proofs.lemmas.Result.{on_ok_weaker}
 use Rattle.std.proofs.Common.{◌∙◌, ap}
 use Rattle.std.specs.Prelude.{◌||◌}
 use Rattle.gtfs_trip_rules.specs.CoveredTrips.{covers_trip}
-use Rattle.gtfs_trip_rules.specs.PeriodView.{meets_one}
+use Rattle.gtfs_trip_rules.specs.FrequencyPeriods.{meets_one}
 use Rattle.gtfs_trip_rules.proofs.CoveredTripFacts.{covered_more, still_of_trips}
 use Rattle.gtfs_trip_rules.proofs.periods.meets_earlier.Goals as goal
 

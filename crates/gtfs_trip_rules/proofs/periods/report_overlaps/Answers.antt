@@ -5,13 +5,13 @@ use Rattle.gtfs_table.specs.declared.file.File.TheVariants as file
 use Rattle.gtfs_table.proofs.RowFacts.{all_taken, turn}
 use Rattle.gtfs_schema.specs.declared.code.Code.TheVariants as code
 use Rattle.gtfs_schema.specs.PeriodRules.{overlaps_earlier}
-use Rattle.gtfs_schema.specs.Values.{if_there}
-use Rattle.gtfs_schema.specs.steps.Picks.{at_column}
+use Rattle.gtfs_schema.specs.FieldValues.{if_there}
+use Rattle.gtfs_schema.specs.steps.KeptColumns.{at_column}
 use Rattle.gtfs_schema.proofs.RowFacts.{reported_all, reported_more, reported_none}
 use Rattle.gtfs_schema.proofs.RuleFacts.{silent_column}
 use Rattle.gtfs_trip_rules.specs.CoveredTrips.{covers_trip}
-use Rattle.gtfs_trip_rules.specs.PeriodView.{meets_one, met_among, period_at, period_in}
-use Rattle.gtfs_trip_rules.specs.SpanView.{covers}
+use Rattle.gtfs_trip_rules.specs.FrequencyPeriods.{meets_one, met_among, period_at, period_in}
+use Rattle.gtfs_trip_rules.specs.PeriodSpans.{covers}
 use Rattle.gtfs_trip_rules.proofs.PeriodFacts.{known_more, rule_asked, there_alike}
 use Rattle.gtfs_trip_rules.proofs.PeriodReports.{at_rows, column, overlaps_reported, row_asked}
 use Rattle.gtfs_trip_rules.proofs.periods.report_overlaps.Goals as goal

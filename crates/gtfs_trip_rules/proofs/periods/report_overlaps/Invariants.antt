@@ -3,11 +3,11 @@ use Rattle.std.specs.Prelude.{codes}
 use Rattle.gtfs_table.specs.Rows.{numbers}
 use Rattle.gtfs_table.specs.declared.file.File.TheVariants as file
 use Rattle.gtfs_schema.specs.declared.code.Code.TheVariants as code
-use Rattle.gtfs_schema.specs.steps.Found.{Reports}
-use Rattle.gtfs_schema.specs.steps.Picks.{at_column}
+use Rattle.gtfs_schema.specs.steps.FoundProblems.{Reports}
+use Rattle.gtfs_schema.specs.steps.KeptColumns.{at_column}
 use Rattle.gtfs_schema.proofs.RowFacts.{at_rows}
 use Rattle.gtfs_trip_rules.specs.CoveredTrips.{AreOfTrips, covers_trip}
-use Rattle.gtfs_trip_rules.specs.PeriodView.{met_among}
+use Rattle.gtfs_trip_rules.specs.FrequencyPeriods.{met_among}
 use Rattle.gtfs_trip_rules.proofs.periods.report_overlaps.Given as goal
 
 -- what is reported and what is covered, of the rows so far

@@ -2,7 +2,7 @@ use Rattle.std.proofs.Common.{◌∙◌, sym, ap}
 use Rattle.std.specs.Prelude.{◌&&◌}
 use Rattle.gtfs_trip_rules.specs.declared.services.source.Source.TheVariants as source
 use Rattle.gtfs_table.specs.Rows.{is_row, records_in}
-use Rattle.gtfs_trip_rules.specs.ServiceView.{file_of, is_reported, Calendars}
+use Rattle.gtfs_trip_rules.specs.ServiceCalendars.{file_of, is_reported, Calendars}
 use Rattle.gtfs_trip_rules.proofs.ServiceFacts.{condition_is}
 use Rattle.gtfs_trip_rules.proofs.ServiceReports.{both_reported}
 use Rattle.gtfs_trip_rules.proofs.services.report_both.Goals as goal

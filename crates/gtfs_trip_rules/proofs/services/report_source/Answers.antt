@@ -4,9 +4,9 @@ use Rattle.gtfs_table.specs.Rows.{numbered, records_in, rows}
 use Rattle.gtfs_table.specs.declared.file.File.{File}
 use Rattle.gtfs_table.proofs.RowFacts.{all_taken, turn}
 use Rattle.gtfs_schema.specs.declared.code.Code.TheVariants as code
-use Rattle.gtfs_schema.specs.steps.Picks.{at_column}
+use Rattle.gtfs_schema.specs.steps.KeptColumns.{at_column}
 use Rattle.gtfs_trip_rules.specs.ServiceFields.{calendars_of}
-use Rattle.gtfs_trip_rules.specs.ServiceView.{file_of, is_reported}
+use Rattle.gtfs_trip_rules.specs.ServiceCalendars.{file_of, is_reported}
 use Rattle.gtfs_schema.proofs.RowFacts.{reported_all, reported_more, reported_none}
 use Rattle.gtfs_schema.proofs.RuleFacts.{row_reported, silent_column}
 use Rattle.gtfs_trip_rules.proofs.services.report_source.Goals as goal

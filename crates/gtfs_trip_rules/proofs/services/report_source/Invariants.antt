@@ -1,9 +1,9 @@
 use Rattle.std.specs.Prelude.{codes}
 use Rattle.gtfs_table.specs.Rows.{numbers}
 use Rattle.gtfs_schema.specs.declared.code.Code.TheVariants as code
-use Rattle.gtfs_schema.specs.steps.Found.{Reports}
-use Rattle.gtfs_schema.specs.steps.Picks.{at_column}
-use Rattle.gtfs_trip_rules.specs.ServiceView.{file_of}
+use Rattle.gtfs_schema.specs.steps.FoundProblems.{Reports}
+use Rattle.gtfs_schema.specs.steps.KeptColumns.{at_column}
+use Rattle.gtfs_trip_rules.specs.ServiceCalendars.{file_of}
 use Rattle.gtfs_schema.proofs.RowFacts.{at_rows}
 use Rattle.gtfs_trip_rules.proofs.services.report_source.Given as goal
 

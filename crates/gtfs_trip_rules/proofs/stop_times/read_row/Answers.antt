@@ -3,10 +3,10 @@ use Rattle.std.specs.Prelude.{option_and_then}
 use Rattle.std.proofs.lemmas.Result.{on_ok_weaker}
 use Rattle.gtfs_table.specs.Tables.{field_under}
 use Rattle.gtfs_schema.specs.Columns.{id}
-use Rattle.gtfs_schema.specs.Values.{word}
+use Rattle.gtfs_schema.specs.FieldValues.{word}
 use Rattle.gtfs_schema.specs.IdNumbers.{number_among}
 use Rattle.gtfs_schema.specs.steps.Ids.{first_row_with, ids_of, number_with}
-use Rattle.gtfs_trip_rules.specs.Readings.{text_of, value_in}
+use Rattle.gtfs_trip_rules.specs.StopTimeFields.{text_of, value_in}
 use Rattle.gtfs_trip_rules.specs.StopTimes.{stop_time_text, AreNumbersOf, IsReading, IsRow, IsStopTime}
 use Rattle.gtfs_trip_rules.proofs.stop_times.read_row.Goals as goal
 

@@ -1,6 +1,6 @@
 use Rattle.std.proofs.Common.{◌∙◌, ap, arith, subst, sym}
 use Rattle.gtfs_schema.specs.steps.Ids.{ids_of}
-use Rattle.gtfs_trip_rules.specs.Kept.{AllKeep}
+use Rattle.gtfs_trip_rules.specs.KeptRows.{AllKeep}
 use Rattle.gtfs_table.specs.declared.file.File.TheVariants as file
 use Rattle.gtfs_table.proofs.RowFacts.{all_taken, turn}
 use Rattle.gtfs_trip_rules.specs.StopTimePicks.{in_rows}

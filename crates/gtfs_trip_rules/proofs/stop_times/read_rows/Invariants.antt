@@ -3,9 +3,9 @@ use Rattle.std.specs.List.{filter_map}
 use Rattle.std.specs.Prelude.{codes}
 use Rattle.gtfs_table.specs.declared.file.File.TheVariants as file
 use Rattle.gtfs_schema.specs.IdNumbers.{ids_by_bytes}
-use Rattle.gtfs_trip_rules.specs.Kept.{AllKeep}
+use Rattle.gtfs_trip_rules.specs.KeptRows.{AllKeep}
 use Rattle.gtfs_table.specs.Rows.{numbers}
-use Rattle.gtfs_schema.specs.steps.Found.{Reports}
+use Rattle.gtfs_schema.specs.steps.FoundProblems.{Reports}
 use Rattle.gtfs_trip_rules.specs.StopTimePicks.{in_rows}
 use Rattle.gtfs_trip_rules.specs.StopTimes.{AreNamedRows}
 use Rattle.gtfs_schema.proofs.RowFacts.{at_rows}

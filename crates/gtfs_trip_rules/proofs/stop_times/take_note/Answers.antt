@@ -4,10 +4,10 @@ use Rattle.std.specs.Prelude.{option_and_then}
 use Rattle.std.proofs.lemmas.List.Elements.{All-push}
 use Rattle.std.proofs.lemmas.Result.{on_ok_weaker}
 use Rattle.gtfs_schema.specs.IdNumbers.{number_among}
-use Rattle.gtfs_trip_rules.specs.Kept.{AllKeep, Keeps}
+use Rattle.gtfs_trip_rules.specs.KeptRows.{AllKeep, Keeps}
 use Rattle.gtfs_trip_rules.specs.KeptRow.{kept_row}
 use Rattle.gtfs_stop_times.specs.KeptTimes.{with_trip}
-use Rattle.gtfs_trip_rules.specs.Readings.{text_of, value_in}
+use Rattle.gtfs_trip_rules.specs.StopTimeFields.{text_of, value_in}
 use Rattle.gtfs_trip_rules.specs.TripNotes.{trip_note}
 use Rattle.gtfs_stop_times.specs.StopTimeOrder.{AreEarlier}
 use Rattle.gtfs_trip_rules.proofs.EarlierRows.{earlier_pushed}

@@ -1,5 +1,5 @@
 use Rattle.std.proofs.Common.{◌≡◌, ◌∙◌, ◌+◌, ap, arith}
-use Rattle.gtfs_writing.specs.Bounds.{longest}
+use Rattle.gtfs_writing.specs.LongestTexts.{longest}
 use Rattle.gtfs_writing.proofs.StopTimeBounds.{most, not-longer}
 use Rattle.gtfs_writing.proofs.bounds.are_stop_times_within.Goals as goal
 

@@ -1,6 +1,6 @@
 use Rattle.std.proofs.Common.{◌≡◌, drop, map, if◌then◌else◌}
 use Rattle.gtfs_field.specs.Canonical.{count_text}
-use Rattle.gtfs_writing.specs.Taking.{with_fields}
+use Rattle.gtfs_writing.specs.TakenRecords.{with_fields}
 use Rattle.gtfs_writing.proofs.calendar.write_flags.Given as goal
 
 abbrev pub invariant-loop-day : goal.invariant-loop-day

@@ -1,6 +1,6 @@
 use Rattle.std.proofs.Common.{◌∙◌, ap, sym, map, length, if◌then◌else◌}
 use Rattle.gtfs_field.specs.Canonical.{count_text}
-use Rattle.gtfs_writing.specs.Taking.{with_fields}
+use Rattle.gtfs_writing.specs.TakenRecords.{with_fields}
 use Rattle.gtfs_writing.proofs.Weeks.{on_ok_then, week_row}
 use Rattle.gtfs_writing.proofs.calendar.write_week.Goals as goal
 

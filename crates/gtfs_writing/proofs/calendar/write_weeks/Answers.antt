@@ -2,7 +2,7 @@ use Rattle.std.proofs.Common.{map, refl}
 use Rattle.gtfs_schema.specs.Columns.{columns_of}
 use Rattle.gtfs_rows.specs.Cells.{record_text}
 use Rattle.gtfs_rows.specs.RowCells.{held_by, week_cells, week_list}
-use Rattle.gtfs_rows.specs.Views.{service_of}
+use Rattle.gtfs_rows.specs.RowsInMemory.{service_of}
 use Rattle.gtfs_table.specs.declared.file.File.TheVariants as file
 use Rattle.gtfs_writing.proofs.Taken.{loop_done, loop_step, mapped-append}
 use Rattle.gtfs_writing.proofs.calendar.write_weeks.Goals as goal

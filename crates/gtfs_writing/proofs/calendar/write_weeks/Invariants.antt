@@ -2,9 +2,9 @@ use Rattle.std.proofs.Common.{◌≡◌, drop, map}
 use Rattle.gtfs_schema.specs.Columns.{columns_of}
 use Rattle.gtfs_rows.specs.Cells.{record_text}
 use Rattle.gtfs_rows.specs.RowCells.{held_by, week_cells, week_list}
-use Rattle.gtfs_rows.specs.Views.{content_of_parts, service_of}
+use Rattle.gtfs_rows.specs.RowsInMemory.{content_of_parts, service_of}
 use Rattle.gtfs_table.specs.declared.file.File.TheVariants as file
-use Rattle.gtfs_writing.specs.Taking.{rows_in, with_rows}
+use Rattle.gtfs_writing.specs.TakenRecords.{rows_in, with_rows}
 use Rattle.gtfs_writing.proofs.calendar.write_weeks.Given as goal
 
 -- the rows that are left lead to where all rows lead

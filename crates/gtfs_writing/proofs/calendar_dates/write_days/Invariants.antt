@@ -3,7 +3,7 @@ use Rattle.gtfs_schema.specs.Columns.{columns_of}
 use Rattle.gtfs_rows.specs.Cells.{record_text}
 use Rattle.gtfs_rows.specs.RowCells.{exception_cells}
 use Rattle.gtfs_table.specs.declared.file.File.TheVariants as file
-use Rattle.gtfs_writing.specs.Taking.{with_rows}
+use Rattle.gtfs_writing.specs.TakenRecords.{with_rows}
 use Rattle.gtfs_writing.proofs.calendar_dates.write_days.Given as goal
 
 -- the rows that are left lead to where all rows lead

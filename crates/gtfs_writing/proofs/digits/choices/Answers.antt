@@ -1,5 +1,5 @@
 use Rattle.std.proofs.Common.{◌∷◌, ◌∙◌, ◌+◌, ◌%◌, [], ap, arith}
-use Rattle.gtfs_stop_times.specs.Choices.{drop_off_code, pickup_code}
+use Rattle.gtfs_stop_times.specs.StopTimeChoices.{drop_off_code, pickup_code}
 use Rattle.gtfs_writing.proofs.PlainTexts.{choices-text}
 use Rattle.gtfs_writing.proofs.digits.choices.Goals as goal
 

@@ -3,10 +3,10 @@ use Rattle.std.specs.Str.{IsUtf8}
 use Rattle.std.proofs.lemmas.Str.{IsUtf8-string_bytes}
 use Rattle.gtfs_table.specs.Tables.{table_of_bytes}
 use Rattle.gtfs_rows.specs.RowCells.{cells_in}
-use Rattle.gtfs_rows.specs.Views.{content_of_parts}
-use Rattle.gtfs_rows.specs.Written.{records_of_cells}
+use Rattle.gtfs_rows.specs.RowsInMemory.{content_of_parts}
+use Rattle.gtfs_rows.specs.WrittenContent.{records_of_cells}
 use Rattle.gtfs_rows.proofs.Passing.{written_form}
-use Rattle.gtfs_writing.specs.Taking.{into_text, with_rows}
+use Rattle.gtfs_writing.specs.TakenRecords.{into_text, with_rows}
 use Rattle.gtfs_rows.specs.FileTexts.{written_text}
 use Rattle.gtfs_writing.proofs.TextAgain.{reads-back}
 use Rattle.gtfs_rows.proofs.FileTexts.{table-text}

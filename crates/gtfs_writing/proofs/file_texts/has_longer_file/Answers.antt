@@ -1,8 +1,8 @@
 use Rattle.std.proofs.Common.{◌∙◌, sym, arith}
 use Rattle.std.proofs.lemmas.List.Folds.{list_any_at}
-use Rattle.gtfs_table.specs.Reading.{kept_files}
+use Rattle.gtfs_table.specs.TablesRead.{kept_files}
 use Rattle.gtfs_table.specs.declared.file.File.TheVariants as file
-use Rattle.gtfs_rows.specs.Views.{content_of_parts}
+use Rattle.gtfs_rows.specs.RowsInMemory.{content_of_parts}
 use Rattle.gtfs_rows.specs.FileTexts.{is_longer}
 use Rattle.gtfs_writing.proofs.TextFacts.{not-yet}
 use Rattle.gtfs_writing.proofs.file_texts.has_longer_file.Goals as goal

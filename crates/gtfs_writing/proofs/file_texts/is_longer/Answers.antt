@@ -1,9 +1,9 @@
 use Rattle.std.proofs.Common.{◌∙◌, ap}
 use Rattle.std.specs.Option.{is_none}
 use Rattle.gtfs_rows.specs.RowCells.{cells_in}
-use Rattle.gtfs_rows.specs.Views.{content_of_parts}
-use Rattle.gtfs_rows.specs.Written.{records_of_cells}
-use Rattle.gtfs_writing.specs.Taking.{into_room, with_rows}
+use Rattle.gtfs_rows.specs.RowsInMemory.{content_of_parts}
+use Rattle.gtfs_rows.specs.WrittenContent.{records_of_cells}
+use Rattle.gtfs_writing.specs.TakenRecords.{into_room, with_rows}
 use Rattle.gtfs_writing.proofs.TextFacts.{taken-room}
 use Rattle.gtfs_writing.proofs.file_texts.is_longer.Goals as goal
 

@@ -1,4 +1,4 @@
-use Rattle.gtfs_rows.specs.Views.{content_of_parts}
+use Rattle.gtfs_rows.specs.RowsInMemory.{content_of_parts}
 use Rattle.gtfs_rows.proofs.Passing.{written_form}
 use Rattle.gtfs_writing.proofs.files.tables.Goals as goal
 

@@ -1,9 +1,9 @@
 use Rattle.std.proofs.Common.{◌∙◌, ap}
 use Rattle.gtfs_rows.specs.RowCells.{cells_in}
-use Rattle.gtfs_rows.specs.Views.{content_of_parts}
-use Rattle.gtfs_rows.specs.Written.{records_of_cells}
+use Rattle.gtfs_rows.specs.RowsInMemory.{content_of_parts}
+use Rattle.gtfs_rows.specs.WrittenContent.{records_of_cells}
 use Rattle.gtfs_writing.specs.declared.table_rows.TableRows.{TableRows}
-use Rattle.gtfs_writing.specs.Taking.{into_table, with_rows}
+use Rattle.gtfs_writing.specs.TakenRecords.{into_table, with_rows}
 use Rattle.gtfs_writing.proofs.TableFacts.{file-put, on_ok_tables}
 use Rattle.gtfs_writing.proofs.files.write_table.Goals as goal
 

@@ -2,9 +2,9 @@ use Rattle.std.proofs.Common.{◌∙◌, ap, map, sym}
 use Rattle.gtfs_schema.specs.Columns.{columns_of}
 use Rattle.gtfs_rows.specs.Cells.{record_text}
 use Rattle.gtfs_rows.specs.RowCells.{frequency_cells, held_by}
-use Rattle.gtfs_rows.specs.Views.{frequency_of}
+use Rattle.gtfs_rows.specs.RowsInMemory.{frequency_of}
 use Rattle.gtfs_table.specs.declared.file.File.TheVariants as file
-use Rattle.gtfs_writing.specs.Taking.{with_rows}
+use Rattle.gtfs_writing.specs.TakenRecords.{with_rows}
 use Rattle.gtfs_writing.proofs.Items.{after_trip, left-none, stretch_is}
 use Rattle.gtfs_writing.proofs.frequencies.write_frequencies.Goals as goal
 

@@ -2,9 +2,9 @@ use Rattle.std.proofs.Common.{◌≡◌, map}
 use Rattle.gtfs_schema.specs.Columns.{columns_of}
 use Rattle.gtfs_rows.specs.Cells.{record_text}
 use Rattle.gtfs_rows.specs.RowCells.{frequency_cells, held_by}
-use Rattle.gtfs_rows.specs.Views.{content_of_parts}
+use Rattle.gtfs_rows.specs.RowsInMemory.{content_of_parts}
 use Rattle.gtfs_table.specs.declared.file.File.TheVariants as file
-use Rattle.gtfs_writing.specs.Taking.{rows_in, with_rows}
+use Rattle.gtfs_writing.specs.TakenRecords.{rows_in, with_rows}
 use Rattle.gtfs_writing.proofs.Items.{trips_left}
 use Rattle.gtfs_writing.proofs.frequencies.write_frequencies.Given as goal
 

@@ -2,7 +2,7 @@ use Rattle.std.proofs.Common.{◌∷◌, [], map, refl}
 use Rattle.gtfs_schema.specs.Columns.{columns_of}
 use Rattle.gtfs_rows.specs.Cells.{record_text}
 use Rattle.gtfs_rows.specs.RowCells.{frequency_cells}
-use Rattle.gtfs_rows.specs.Views.{frequency_of}
+use Rattle.gtfs_rows.specs.RowsInMemory.{frequency_of}
 use Rattle.gtfs_table.specs.declared.file.File.TheVariants as file
 use Rattle.gtfs_writing.proofs.Taken.{loop_done, loop_step}
 use Rattle.gtfs_writing.proofs.frequencies.write_periods.Goals as goal

@@ -1,6 +1,6 @@
 use Rattle.std.proofs.Common.{◌≡◌, drop, map}
 use Rattle.gtfs_schema.specs.steps.ColumnView.{column_of}
-use Rattle.gtfs_writing.specs.Taking.{with_fields}
+use Rattle.gtfs_writing.specs.TakenRecords.{with_fields}
 use Rattle.gtfs_writing.proofs.headers.write_further_names.Given as goal
 
 abbrev pub invariant-loop-column : goal.invariant-loop-column

@@ -4,7 +4,7 @@ use Rattle.gtfs_rows.specs.Cells.{record_text}
 use Rattle.std.specs.Prelude.{nat_lt, length}
 use Rattle.std.proofs.lemmas.Bool.{ltb-true}
 use Rattle.gtfs_rows.specs.RowCells.{route_cells}
-use Rattle.gtfs_rows.specs.Views.{route_of}
+use Rattle.gtfs_rows.specs.RowsInMemory.{route_of}
 use Rattle.gtfs_table.specs.declared.file.File.TheVariants as file
 use Rattle.gtfs_writing.proofs.Items.{item_passes}
 use Rattle.gtfs_writing.proofs.Taken.{loop_done, loop_step}

@@ -1,5 +1,5 @@
 use Rattle.std.proofs.Common.{◌∙◌, ap, sym}
-use Rattle.gtfs_rows.specs.Views.{text_of_number}
+use Rattle.gtfs_rows.specs.RowsInMemory.{text_of_number}
 use Rattle.gtfs_writing.proofs.PlainTexts.{plain-stop}
 use Rattle.gtfs_writing.proofs.stop_times.write_stop_time.Goals as goal
 

@@ -3,10 +3,10 @@ use Rattle.std.proofs.lemmas.Option.{get_or_from_slice_get}
 use Rattle.gtfs_schema.specs.Columns.{columns_of}
 use Rattle.gtfs_rows.specs.Cells.{record_text}
 use Rattle.gtfs_rows.specs.RowCells.{stop_time_cells, held_by}
-use Rattle.gtfs_rows.specs.Views.{stop_row_of, stop_time_names_rows}
+use Rattle.gtfs_rows.specs.RowsInMemory.{stop_row_of, stop_time_names_rows}
 use Rattle.gtfs_table.specs.declared.file.File.TheVariants as file
 use Rattle.gtfs_table.proofs.PartFacts.{all_in_part}
-use Rattle.gtfs_writing.specs.Taking.{with_rows}
+use Rattle.gtfs_writing.specs.TakenRecords.{with_rows}
 use Rattle.gtfs_writing.proofs.Items.{after_trip, left-none, stop_rows_by_trip}
 use Rattle.gtfs_writing.proofs.stop_times.write_stop_times.Goals as goal
 

@@ -2,9 +2,9 @@ use Rattle.std.proofs.Common.{◌≡◌, drop, map}
 use Rattle.gtfs_schema.specs.Columns.{columns_of}
 use Rattle.gtfs_rows.specs.Cells.{record_text}
 use Rattle.gtfs_rows.specs.RowCells.{stop_time_cells}
-use Rattle.gtfs_rows.specs.Views.{stop_row_of}
+use Rattle.gtfs_rows.specs.RowsInMemory.{stop_row_of}
 use Rattle.gtfs_table.specs.declared.file.File.TheVariants as file
-use Rattle.gtfs_writing.specs.Taking.{with_rows}
+use Rattle.gtfs_writing.specs.TakenRecords.{with_rows}
 use Rattle.gtfs_writing.proofs.stop_times.write_trip_rows.Given as goal
 
 -- the rows that are left lead to where all rows lead

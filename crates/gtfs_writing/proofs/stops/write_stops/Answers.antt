@@ -2,7 +2,7 @@ use Rattle.std.proofs.Common.{◌∷◌, [], map, refl}
 use Rattle.gtfs_schema.specs.Columns.{columns_of}
 use Rattle.gtfs_rows.specs.Cells.{record_text}
 use Rattle.gtfs_rows.specs.RowCells.{stop_cells}
-use Rattle.gtfs_rows.specs.Views.{names_stop, stop_of}
+use Rattle.gtfs_rows.specs.RowsInMemory.{names_stop, stop_of}
 use Rattle.gtfs_table.specs.declared.file.File.TheVariants as file
 use Rattle.gtfs_writing.proofs.Items.{item_passes}
 use Rattle.gtfs_writing.proofs.Taken.{loop_done, loop_step}

@@ -1,4 +1,4 @@
-use Rattle.gtfs_rows.specs.Views.{stop_time_names_rows}
+use Rattle.gtfs_rows.specs.RowsInMemory.{stop_time_names_rows}
 use Rattle.gtfs_table.proofs.PartFacts.{all_in_part}
 use Rattle.gtfs_writing.proofs.text_room.count_some_trips.Goals as goal
 

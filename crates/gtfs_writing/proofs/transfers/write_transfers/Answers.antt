@@ -2,7 +2,7 @@ use Rattle.std.proofs.Common.{◌∙◌, ◌∷◌, [], ap, map, refl}
 use Rattle.gtfs_schema.specs.Columns.{columns_of}
 use Rattle.gtfs_rows.specs.Cells.{record_text}
 use Rattle.gtfs_rows.specs.RowCells.{transfer_cells}
-use Rattle.gtfs_rows.specs.Views.{transfer_names_rows, transfer_of}
+use Rattle.gtfs_rows.specs.RowsInMemory.{transfer_names_rows, transfer_of}
 use Rattle.gtfs_table.specs.declared.file.File.TheVariants as file
 use Rattle.std.specs.List.{list_all}
 use Rattle.gtfs_rows.proofs.RowTexts.{all_at}

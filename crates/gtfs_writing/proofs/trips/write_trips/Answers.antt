@@ -2,9 +2,9 @@ use Rattle.std.proofs.Common.{◌∙◌, ◌∷◌, [], suc, add-one, ap, get_or
 use Rattle.gtfs_schema.specs.Columns.{columns_of}
 use Rattle.gtfs_rows.specs.Cells.{record_text}
 use Rattle.gtfs_rows.specs.RowCells.{trip_cells}
-use Rattle.gtfs_rows.specs.Views.{trip_names_rows, trip_of}
+use Rattle.gtfs_rows.specs.RowsInMemory.{trip_names_rows, trip_of}
 use Rattle.gtfs_table.specs.declared.file.File.TheVariants as file
-use Rattle.gtfs_writing.specs.Taking.{with_rows}
+use Rattle.gtfs_writing.specs.TakenRecords.{with_rows}
 use Rattle.gtfs_writing.proofs.Items.{frequencies_by_trip, item_passes, left-cons, left-none, stop_rows_by_trip, trips_left}
 use Rattle.gtfs_writing.proofs.Taken.{step}
 use Rattle.gtfs_writing.proofs.trips.write_trips.Goals as goal

@@ -2,12 +2,12 @@ use Rattle.std.proofs.Common.{rules, arith, ◌≡◌, ◌≤◌, ◌∙◌, Opt
 use Rattle.std.specs.Prelude.{◌-ℤ◌, option_map}
 use Rattle.std.proofs.lemmas.Int.{to_z-of_z}
 use Rattle.std.proofs.lemmas.List.{length-map}
-use Rattle.gtfs_rows.specs.Views.{stop_ids, text_of_number}
+use Rattle.gtfs_rows.specs.RowsInMemory.{stop_ids, text_of_number}
 use Rattle.gtfs_runs.specs.StopLanes.{lanes_of}
 use Rattle.gtfs_board.specs.Board.{start_of}
 use Rattle.gtfs_board.specs.Floors.{IsNumbered, is_from}
 use Rattle.gtfs_rows.specs.Key.{Key}
-use Rattle.gtfs_board.specs.Lent.{plain_key}
+use Rattle.gtfs_board.specs.LentKeys.{plain_key}
 use Rattle.gtfs_board.specs.declared.upcoming.candidate.Candidate.{Candidate}
 use Rattle.gtfs_board.specs.upcoming.Candidates.{candidate_lt}
 use Rattle.gtfs_board.proofs.Opened.{from_none, start_low, until_less}

@@ -1,11 +1,11 @@
 use Rattle.std.proofs.Common.{◌≡◌, sym, subst}
 use Rattle.std.specs.Prelude.{All}
-use Rattle.gtfs_rows.specs.Views.{content_of_parts, stop_ids, text_of_number}
+use Rattle.gtfs_rows.specs.RowsInMemory.{content_of_parts, stop_ids, text_of_number}
 use Rattle.gtfs_rows.specs.declared.parts.Parts.{Parts}
 use Rattle.gtfs_runs.specs.Lanes.{latest}
 use Rattle.gtfs_times.specs.Filling.{timed}
 use Rattle.gtfs_times.specs.declared.times.Times.{Times}
-use Rattle.gtfs_board.specs.Shown.{IsShown}
+use Rattle.gtfs_board.specs.ShownTrips.{IsShown}
 use Rattle.gtfs_board.proofs.board.Board.open_indexed.Goals as goal
 
 pub of_lanes-requires-clause-greatest : goal.of_lanes-requires-clause-greatest

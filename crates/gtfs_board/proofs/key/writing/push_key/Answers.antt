@@ -1,4 +1,4 @@
-use Rattle.gtfs_board.specs.Lent.{plain_key}
+use Rattle.gtfs_board.specs.LentKeys.{plain_key}
 use Rattle.gtfs_board.proofs.KeyTexts.{key_of-text}
 use Rattle.gtfs_board.proofs.key.writing.push_key.Goals as goal
 

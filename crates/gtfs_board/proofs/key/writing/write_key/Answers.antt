@@ -1,7 +1,7 @@
 use Rattle.std.proofs.Common.{◌∙◌, ◌++◌, ap, lit<, string_bytes, FitsSigned, w64}
 use Rattle.std.specs.Fmt.{signed_decimal}
 use Rattle.std.proofs.lemmas.Int.{to_z-of_z}
-use Rattle.gtfs_board.specs.Lent.{plain_key}
+use Rattle.gtfs_board.specs.LentKeys.{plain_key}
 use Rattle.gtfs_board.proofs.Joined.{key-joined}
 use Rattle.gtfs_board.proofs.key.writing.write_key.Goals as goal
 

@@ -2,7 +2,7 @@ use Rattle.std.proofs.Common.{rules, ◌≡◌, ◌∙◌, refl, sym, ap, subst,
 use Rattle.std.specs.Prelude.{◌≤ℤ◌}
 use Rattle.std.proofs.lemmas.Int.{to_z-of_z}
 use Rattle.gtfs_days.specs.Zone.{zone_origin}
-use Rattle.gtfs_runs.specs.Order.{is_later}
+use Rattle.gtfs_runs.specs.EventOrder.{is_later}
 use Rattle.gtfs_runs.specs.StopLanes.{LaneValue}
 use Rattle.gtfs_board.specs.LaneDays.{departing, lane_at}
 use Rattle.gtfs_board.proofs.LaneDays.{after_found, after_inside, after_origin, after_single, kept_none, kept_some}

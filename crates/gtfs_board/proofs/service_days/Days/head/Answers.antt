@@ -1,6 +1,6 @@
 use Rattle.std.proofs.Common.{w32, w64, ◌∙◌, ap, find}
 use Rattle.std.proofs.lemmas.Int.{to_z-of_z}
-use Rattle.gtfs_runs.specs.Order.{is_above_moment}
+use Rattle.gtfs_runs.specs.EventOrder.{is_above_moment}
 use Rattle.gtfs_runs.specs.StopLanes.{LaneValue}
 use Rattle.gtfs_board.specs.LaneDays.{lane_at}
 use Rattle.gtfs_board.proofs.LaneDays.{head_found, kept_none, kept_some, origin_small}

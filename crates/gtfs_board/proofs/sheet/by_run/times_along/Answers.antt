@@ -1,7 +1,7 @@
 use Rattle.std.proofs.Common.{◌≡◌, ◌∙◌, map, ap, arith}
 use Rattle.std.specs.Prelude.{option_and_then}
 use Rattle.std.specs.List.{range_with_len}
-use Rattle.gtfs_rows.specs.Views.{trip_of}
+use Rattle.gtfs_rows.specs.RowsInMemory.{trip_of}
 use Rattle.gtfs_board.specs.Timetable.{row_at, time_passed}
 use Rattle.gtfs_board.proofs.SheetLists.{ranged-pushed}
 use Rattle.gtfs_board.proofs.sheet.by_run.times_along.Goals as goal

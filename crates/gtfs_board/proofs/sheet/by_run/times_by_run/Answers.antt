@@ -1,9 +1,9 @@
 use Rattle.std.proofs.Common.{get_or}
-use Rattle.gtfs_rows.specs.Views.{content_of_parts}
+use Rattle.gtfs_rows.specs.RowsInMemory.{content_of_parts}
 use Rattle.gtfs_runs.proofs.Pushes.{mapped-all}
 use Rattle.gtfs_times.specs.TimedRows.{timed_parts}
 use Rattle.gtfs_times.specs.declared.times.Times.TheVariants.{Interpolated}
-use Rattle.gtfs_board.specs.SheetSteps.{times_of_column}
+use Rattle.gtfs_board.specs.TimetableColumns.{times_of_column}
 use Rattle.gtfs_board.specs.declared.sheet.columns.RunColumn.{RunColumn}
 use Rattle.gtfs_board.proofs.SheetLists.{item-at, mapped-more}
 use Rattle.gtfs_board.proofs.sheet.by_run.times_by_run.Goals as goal

@@ -1,8 +1,8 @@
 use Rattle.std.proofs.Common.{◌≡◌, map, take}
-use Rattle.gtfs_rows.specs.Views.{content_of_parts}
+use Rattle.gtfs_rows.specs.RowsInMemory.{content_of_parts}
 use Rattle.gtfs_times.specs.TimedRows.{timed_parts}
 use Rattle.gtfs_times.specs.declared.times.Times.TheVariants.{Interpolated}
-use Rattle.gtfs_board.specs.SheetSteps.{times_of_column}
+use Rattle.gtfs_board.specs.TimetableColumns.{times_of_column}
 use Rattle.gtfs_board.proofs.sheet.by_run.times_by_run.Given as goal
 
 -- the times of the runs so far

@@ -6,7 +6,7 @@ use Rattle.gtfs_times.specs.TimedRows.{filled_stop_times, timed_parts}
 use Rattle.gtfs_times.specs.declared.times.Times.TheVariants.{Interpolated}
 use Rattle.gtfs_times.proofs.FillValue.{filled-length}
 use Rattle.gtfs_times.proofs.FilledContent.{sound-timed}
-use Rattle.gtfs_board.specs.SheetSteps.{KeepTimes}
+use Rattle.gtfs_board.specs.TimetableColumns.{KeepTimes}
 use Rattle.gtfs_board.proofs.Results.{if_ok}
 use Rattle.gtfs_board.proofs.SheetColumns.{rows-are}
 use Rattle.gtfs_board.proofs.TimedRows.{keep-times, rows-there}

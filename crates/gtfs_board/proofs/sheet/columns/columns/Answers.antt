@@ -1,6 +1,6 @@
 use Rattle.std.proofs.Common.{get_or}
 use Rattle.gtfs_rows.specs.declared.numbers.TripNo.{TripNo}
-use Rattle.gtfs_board.specs.SheetSteps.{is_column_of, is_same_column}
+use Rattle.gtfs_board.specs.TimetableColumns.{is_column_of, is_same_column}
 use Rattle.gtfs_board.proofs.SheetLists.{item-at}
 use Rattle.gtfs_board.proofs.SheetRuns.{counted-more, counted-sorted}
 use Rattle.gtfs_board.proofs.sheet.columns.columns.Goals as goal

@@ -1,6 +1,6 @@
 use Rattle.std.proofs.Common.{◌≡◌, take}
-use Rattle.gtfs_runs.specs.Counts.{tally}
-use Rattle.gtfs_board.specs.SheetSteps.{is_column_of, is_same_column}
+use Rattle.gtfs_runs.specs.Tallies.{tally}
+use Rattle.gtfs_board.specs.TimetableColumns.{is_column_of, is_same_column}
 use Rattle.gtfs_board.specs.declared.sheet.columns.RunColumn.{RunColumn}
 use Rattle.gtfs_board.proofs.sheet.columns.columns.Given as goal
 

@@ -1,6 +1,6 @@
 use Rattle.std.proofs.Common.{arith}
-use Rattle.gtfs_runs.specs.Counts.{tally}
-use Rattle.gtfs_board.specs.SheetSteps.{is_same_column}
+use Rattle.gtfs_runs.specs.Tallies.{tally}
+use Rattle.gtfs_board.specs.TimetableColumns.{is_same_column}
 use Rattle.gtfs_board.proofs.SheetStarts.{period-begun, period-ended, period-step}
 use Rattle.gtfs_board.proofs.sheet.columns.push_period.Goals as goal
 

@@ -1,8 +1,8 @@
 use Rattle.std.proofs.Common.{◌≡◌, ◌-◌, ◌+◌, ◌==◌, ◌&&◌, cond}
-use Rattle.gtfs_rows.specs.Views.{frequency_of}
-use Rattle.gtfs_runs.specs.Counts.{tally}
+use Rattle.gtfs_rows.specs.RowsInMemory.{frequency_of}
+use Rattle.gtfs_runs.specs.Tallies.{tally}
 use Rattle.gtfs_rows.specs.Runs.{starts_run}
-use Rattle.gtfs_board.specs.SheetSteps.{is_same_column}
+use Rattle.gtfs_board.specs.TimetableColumns.{is_same_column}
 use Rattle.gtfs_board.specs.declared.sheet.columns.RunColumn.{RunColumn}
 use Rattle.gtfs_board.proofs.SheetStarts.{starts_from}
 use Rattle.gtfs_board.proofs.sheet.columns.push_period.Given as goal

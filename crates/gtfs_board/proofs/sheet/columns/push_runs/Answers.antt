@@ -1,8 +1,8 @@
 use Rattle.std.proofs.Common.{◌<◌, ◌==◌, ◌∙◌, length, sym, arith}
 use Rattle.std.proofs.lemmas.Bool.{eqb-false}
-use Rattle.gtfs_runs.specs.Counts.{tally}
+use Rattle.gtfs_runs.specs.Tallies.{tally}
 use Rattle.gtfs_runs.proofs.RunStarts.{starts}
-use Rattle.gtfs_board.specs.SheetSteps.{is_same_column}
+use Rattle.gtfs_board.specs.TimetableColumns.{is_same_column}
 use Rattle.gtfs_board.proofs.SheetRuns.{none-started, own-pushed, period-more, periods-all}
 use Rattle.gtfs_board.proofs.sheet.columns.push_runs.Goals as goal
 

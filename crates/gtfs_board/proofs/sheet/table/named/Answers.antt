@@ -1,6 +1,6 @@
 use Rattle.std.proofs.Common.{get_or, ap}
 use Rattle.gtfs_runs.proofs.Pushes.{mapped-all}
-use Rattle.gtfs_board.specs.SheetSteps.{named_column}
+use Rattle.gtfs_board.specs.TimetableColumns.{named_column}
 use Rattle.gtfs_board.specs.declared.sheet.columns.RunColumn.{RunColumn}
 use Rattle.gtfs_board.proofs.SheetLists.{item-at, mapped-more}
 use Rattle.gtfs_board.proofs.sheet.table.named.Goals as goal

@@ -1,5 +1,5 @@
 use Rattle.std.proofs.Common.{◌≡◌, map, take}
-use Rattle.gtfs_board.specs.SheetSteps.{named_column}
+use Rattle.gtfs_board.specs.TimetableColumns.{named_column}
 use Rattle.gtfs_board.proofs.sheet.table.named.Given as goal
 
 -- the runs so far

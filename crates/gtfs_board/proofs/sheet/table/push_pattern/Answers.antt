@@ -1,11 +1,11 @@
 use Rattle.std.proofs.Common.{◌∙◌, [], ◌∷◌, length, map, sym, ap, subst}
 use Rattle.std.specs.Prelude.{All, ◌==◌}
 use Rattle.std.proofs.lemmas.List.{map-append}
-use Rattle.gtfs_runs.specs.Counts.{tally}
+use Rattle.gtfs_runs.specs.Tallies.{tally}
 use Rattle.gtfs_times.specs.TimedRows.{timed_parts}
 use Rattle.gtfs_times.proofs.FilledContent.{sound-timed}
 use Rattle.gtfs_board.specs.LentSheets.{plain_sheet}
-use Rattle.gtfs_board.specs.SheetSteps.{HasRow, IsShownAlong, is_column_of, sheet_along, sheet_of_columns}
+use Rattle.gtfs_board.specs.TimetableColumns.{HasRow, IsShownAlong, is_column_of, sheet_along, sheet_of_columns}
 use Rattle.gtfs_board.proofs.SheetColumns.{all-shown, none-added, one-added}
 use Rattle.gtfs_board.proofs.TimedSheets.{columns-same, pattern-timed}
 use Rattle.gtfs_board.proofs.sheet.table.push_pattern.Goals as goal

@@ -2,7 +2,7 @@ use Rattle.std.proofs.Common.{◌∙◌, map, sym, ap, subst}
 use Rattle.std.specs.List.{filter, flat_map}
 use Rattle.std.proofs.lemmas.List.{take_all}
 use Rattle.gtfs_board.specs.LentSheets.{plain_sheet}
-use Rattle.gtfs_board.specs.SheetSteps.{IsPattern, goes, sheets_along}
+use Rattle.gtfs_board.specs.TimetableColumns.{IsPattern, goes, sheets_along}
 use Rattle.gtfs_times.specs.TimedRows.{timed_parts}
 use Rattle.gtfs_board.proofs.SheetLists.{left-out, taken-in}
 use Rattle.gtfs_board.proofs.sheet.table.sheets_of.Goals.{then-goes+in_ok-push_pattern, else-goes}

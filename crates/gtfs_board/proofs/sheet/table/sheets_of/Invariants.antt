@@ -2,7 +2,7 @@ use Rattle.std.proofs.Common.{◌≡◌, map, take}
 use Rattle.std.specs.List.{filter, flat_map}
 use Rattle.gtfs_times.specs.TimedRows.{timed_parts}
 use Rattle.gtfs_board.specs.LentSheets.{plain_sheet}
-use Rattle.gtfs_board.specs.SheetSteps.{goes, sheets_along}
+use Rattle.gtfs_board.specs.TimetableColumns.{goes, sheets_along}
 use Rattle.gtfs_board.proofs.sheet.table.sheets_of.Given as goal
 
 -- the sheets of the patterns so far

@@ -1,10 +1,10 @@
 use Rattle.std.proofs.Common.{◌≡◌, ◌∙◌, map, sym, subst}
 use Rattle.std.specs.Prelude.{All}
 use Rattle.std.specs.List.{filter, flat_map}
-use Rattle.gtfs_rows.specs.Views.{route_ids, text_of_number}
+use Rattle.gtfs_rows.specs.RowsInMemory.{route_ids, text_of_number}
 use Rattle.gtfs_times.specs.TimedRows.{timed_parts}
 use Rattle.gtfs_board.specs.LentSheets.{plain_sheet}
-use Rattle.gtfs_board.specs.SheetSteps.{IsPattern, goes, sheets_along}
+use Rattle.gtfs_board.specs.TimetableColumns.{IsPattern, goes, sheets_along}
 use Rattle.gtfs_runs.proofs.TripIds.{text_at}
 use Rattle.gtfs_board.proofs.SheetPatterns.{patterns-are}
 use Rattle.gtfs_board.proofs.TimedSheets.{sheets-timed}

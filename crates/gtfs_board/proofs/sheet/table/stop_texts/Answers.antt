@@ -1,5 +1,5 @@
 use Rattle.std.proofs.Common.{get_or}
-use Rattle.gtfs_rows.specs.Views.{stop_ids, text_of_number}
+use Rattle.gtfs_rows.specs.RowsInMemory.{stop_ids, text_of_number}
 use Rattle.gtfs_stop_times.specs.declared.numbers.StopNo.{StopNo}
 use Rattle.gtfs_runs.proofs.Pushes.{mapped-all}
 use Rattle.gtfs_board.proofs.SheetLists.{item-at, mapped-more}

@@ -1,5 +1,5 @@
 use Rattle.std.proofs.Common.{◌≡◌, map, take}
-use Rattle.gtfs_rows.specs.Views.{stop_ids, text_of_number}
+use Rattle.gtfs_rows.specs.RowsInMemory.{stop_ids, text_of_number}
 use Rattle.gtfs_board.proofs.sheet.table.stop_texts.Given as goal
 
 -- the ids so far

@@ -1,6 +1,6 @@
 use Rattle.std.proofs.Common.{◌≡◌, ◌∙◌, map, ap, arith}
-use Rattle.gtfs_rows.specs.Views.{content_of_parts}
-use Rattle.gtfs_board.specs.SheetSteps.{column_times, time_of_column}
+use Rattle.gtfs_rows.specs.RowsInMemory.{content_of_parts}
+use Rattle.gtfs_board.specs.TimetableColumns.{column_times, time_of_column}
 use Rattle.gtfs_board.proofs.SheetColumns.{shown-upto}
 use Rattle.gtfs_board.proofs.SheetLists.{ranged-pushed}
 use Rattle.gtfs_board.proofs.sheet.times.given_times.Goals as goal

@@ -1,6 +1,6 @@
 use Rattle.std.proofs.Common.{◌≡◌}
-use Rattle.gtfs_rows.specs.Views.{content_of_parts}
-use Rattle.gtfs_board.specs.SheetSteps.{column_times}
+use Rattle.gtfs_rows.specs.RowsInMemory.{content_of_parts}
+use Rattle.gtfs_board.specs.TimetableColumns.{column_times}
 use Rattle.gtfs_board.proofs.sheet.times.given_times.Given as goal
 
 -- the times at the positions so far

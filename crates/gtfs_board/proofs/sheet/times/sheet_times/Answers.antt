@@ -1,9 +1,9 @@
 use Rattle.std.proofs.Common.{◌≡◌, ◌∙◌, sym, ap}
-use Rattle.gtfs_rows.specs.Views.{content_of_parts}
+use Rattle.gtfs_rows.specs.RowsInMemory.{content_of_parts}
 use Rattle.gtfs_times.specs.TimedRows.{timed_parts}
 use Rattle.gtfs_times.specs.declared.times.Times.TheVariants as times
 use Rattle.gtfs_times.proofs.TimedContent.{content-timed}
-use Rattle.gtfs_board.specs.SheetSteps.{column_times}
+use Rattle.gtfs_board.specs.TimetableColumns.{column_times}
 use Rattle.gtfs_board.proofs.Results.{if_ok}
 use Rattle.gtfs_board.proofs.TimedRows.{content-given}
 use Rattle.gtfs_board.proofs.sheet.times.sheet_times.Goals as goal

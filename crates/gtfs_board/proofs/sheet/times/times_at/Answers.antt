@@ -1,7 +1,7 @@
 use Rattle.std.proofs.Common.{◌∙◌, get_or}
-use Rattle.gtfs_rows.specs.Views.{content_of_parts}
+use Rattle.gtfs_rows.specs.RowsInMemory.{content_of_parts}
 use Rattle.gtfs_runs.proofs.Pushes.{mapped-all, pushed-more}
-use Rattle.gtfs_board.specs.SheetSteps.{time_of_column}
+use Rattle.gtfs_board.specs.TimetableColumns.{time_of_column}
 use Rattle.gtfs_board.specs.declared.sheet.columns.RunColumn.{RunColumn}
 use Rattle.gtfs_board.proofs.SheetLists.{item-at}
 use Rattle.gtfs_board.proofs.sheet.times.times_at.Goals as goal

@@ -1,6 +1,6 @@
 use Rattle.std.proofs.Common.{◌≡◌, map, take}
-use Rattle.gtfs_rows.specs.Views.{content_of_parts}
-use Rattle.gtfs_board.specs.SheetSteps.{time_of_column}
+use Rattle.gtfs_rows.specs.RowsInMemory.{content_of_parts}
+use Rattle.gtfs_board.specs.TimetableColumns.{time_of_column}
 use Rattle.gtfs_board.proofs.sheet.times.times_at.Given as goal
 
 -- the times of the columns so far

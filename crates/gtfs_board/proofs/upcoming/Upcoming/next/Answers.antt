@@ -4,7 +4,7 @@ use Rattle.std.specs.Option.{option_to_list}
 use Rattle.std.proofs.lemmas.Int.{to_z-of_z}
 use Rattle.gtfs_days.specs.Service.{last_service_day}
 use Rattle.gtfs_board.specs.Board.{low_mark}
-use Rattle.gtfs_board.specs.upcoming.Candidates.{position}
+use Rattle.gtfs_board.specs.upcoming.Candidates.{instant_or_end}
 use Rattle.gtfs_board.proofs.Ints.{le_chain}
 use Rattle.gtfs_board.proofs.KnownDays.{known}
 use Rattle.gtfs_board.proofs.Waiting.{first_of_rest, first_opened, head_ends, joined, none_of_rest, queued, stands, steps_taken, still_from, taken}
@@ -110,7 +110,7 @@ returns-clause-steps c =
     let old_fits : SFits w32 i.day = search rules in
     let r = joined (known i.days) first (i.others ++ option_to_list c.after-head.result) c.in_ok-gathered.gathered.fresh.items c.join.new.self c.in_ok-self-inside.field-0 day least
     got.gathered got.stopped j.counts j.first in
-    let old_is = (stands (known i.days) i.floor i.first i.others i.day c.self.invariant.waiting).1 ∙ ap (position i.days.end) c.in-Some.is in
+    let old_is = (stands (known i.days) i.floor i.first i.others i.day c.self.invariant.waiting).1 ∙ ap (instant_or_end i.days.end) c.in-Some.is in
     let new_is = (stands (known i.days) first c.in_ok-self-inside.field-0 c.join.new.self day r.0).1 ∙ sym r.1 in
     let w = rw c.in-Some.is at c.self.invariant.waiting in
     let t = taken (known i.days) i.floor first i.others i.day c.after-head.result w c.after-head.ensures.next in

@@ -4,7 +4,7 @@ use Rattle.std.proofs.lemmas.Int.{to_z-of_z}
 use Rattle.gtfs_days.specs.Service.{first_service_day, last_service_day}
 use Rattle.gtfs_runs.proofs.Pushes.{none-made}
 use Rattle.gtfs_board.specs.Board.{low_mark}
-use Rattle.gtfs_board.specs.Days.{count_of}
+use Rattle.gtfs_board.specs.UpcomingDays.{count_of}
 use Rattle.gtfs_board.specs.upcoming.Candidates.{least_from}
 use Rattle.gtfs_board.proofs.Ints.{le_chain}
 use Rattle.gtfs_board.proofs.KnownDays.{known}

@@ -2,7 +2,7 @@ use Rattle.std.proofs.Common.{rules, ◌≡◌, ◌≤◌, ◌+◌, ◌-◌, ◌
 use Rattle.std.proofs.lemmas.Int.{to_z-of_z}
 use Rattle.gtfs_days.specs.Zone.{zone_origin}
 use Rattle.gtfs_runs.proofs.Pushes.{none-done, none-made}
-use Rattle.gtfs_board.specs.Days.{count_of, events_of, serves_in}
+use Rattle.gtfs_board.specs.UpcomingDays.{count_of, events_of, serves_in}
 use Rattle.gtfs_board.specs.upcoming.Candidates.{candidate_lt, heads_on, least_from}
 use Rattle.gtfs_board.proofs.Days.{heads_on-none, least_from-none, opened_more, least_more}
 use Rattle.gtfs_board.proofs.LaneDays.{on-idle}

@@ -1,5 +1,5 @@
 use Rattle.std.proofs.Common.{◌≡◌, ◌<◌, ◌≤◌, ◌+◌, ◌-◌, ◌++◌}
-use Rattle.gtfs_board.specs.Days.{events_of, serves_in}
+use Rattle.gtfs_board.specs.UpcomingDays.{events_of, serves_in}
 use Rattle.gtfs_board.specs.upcoming.Candidates.{heads_on, least_from}
 use Rattle.gtfs_board.proofs.upcoming.gathering.ask_lanes.Given as goal
 

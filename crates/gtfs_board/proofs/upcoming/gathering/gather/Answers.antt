@@ -5,7 +5,7 @@ use Rattle.std.proofs.Math.Nat.{le_refl}
 use Rattle.std.proofs.lemmas.Int.{to_z-of_z, ints}
 use Rattle.gtfs_days.specs.Service.{first_service_day, last_service_day, service_days}
 use Rattle.gtfs_runs.proofs.Pushes.{none-made}
-use Rattle.gtfs_board.specs.Days.{count_of, events_of}
+use Rattle.gtfs_board.specs.UpcomingDays.{count_of, events_of}
 use Rattle.gtfs_board.specs.upcoming.Candidates.{least_from}
 use Rattle.gtfs_board.proofs.Ints.{after_within, day_after, days_left, le_chain, up_more}
 use Rattle.gtfs_board.proofs.KnownDays.{known}

@@ -2,8 +2,8 @@ use Rattle.std.proofs.Common.{◌++◌}
 use Rattle.std.specs.Prelude.{pos, ◌+ℤ◌, ◌-ℤ◌, ◌≤ℤ◌, unsigned_abs}
 use Rattle.std.specs.Option.{option_to_list}
 use Rattle.gtfs_days.specs.Service.{last_service_day, service_days}
-use Rattle.gtfs_board.specs.Days.{count_of, events_of}
-use Rattle.gtfs_board.specs.upcoming.Lanes.{AreStepsFew}
+use Rattle.gtfs_board.specs.UpcomingDays.{count_of, events_of}
+use Rattle.gtfs_board.specs.upcoming.OpenedLanes.{AreStepsFew}
 use Rattle.gtfs_board.specs.upcoming.Candidates.{least_from, AreGathered}
 use Rattle.gtfs_board.proofs.upcoming.gathering.gather.Given as goal
 

@@ -1,7 +1,7 @@
 use Rattle.std.proofs.Common.{◌≡◌, ap, rules, Err, option_map, to_z, of_z, to_z-of_z, FitsSigned, w64}
 use Rattle.gtfs_days.specs.Zone.{zone_origin}
-use Rattle.gtfs_rows.specs.Views.{content_of_parts}
-use Rattle.gtfs_board.specs.Lent.{plain_key}
+use Rattle.gtfs_rows.specs.RowsInMemory.{content_of_parts}
+use Rattle.gtfs_board.specs.LentKeys.{plain_key}
 use Rattle.gtfs_board.specs.declared.board.BoardFault.{BoardFault}
 use Rattle.gtfs_board.specs.declared.span.Span.{Span}
 use Rattle.gtfs_cli.specs.LentBoardRequests.{board_request_of}

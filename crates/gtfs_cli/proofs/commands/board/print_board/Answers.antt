@@ -1,5 +1,5 @@
 use Rattle.std.proofs.Common.{Bool, ◌∙◌, Err, inl, inr, refl, subst, arith}
-use Rattle.gtfs_board.specs.Page.{IsCutShort, IsPage, IsStopped}
+use Rattle.gtfs_board.specs.BoardPage.{IsCutShort, IsPage, IsStopped}
 use Rattle.gtfs_commands.specs.Words.{texts_of}
 use Rattle.gtfs_cli.specs.BoardCommand.{board_judges, board_plan, IsBoardText}
 use Rattle.gtfs_cli.specs.LentBoardRequests.{board_request_of}

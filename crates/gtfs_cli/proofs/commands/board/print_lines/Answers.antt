@@ -1,5 +1,5 @@
 use Rattle.std.proofs.Common.{inl, refl, subst}
-use Rattle.gtfs_rows.specs.Views.{content_of_parts}
+use Rattle.gtfs_rows.specs.RowsInMemory.{content_of_parts}
 use Rattle.gtfs_cli.specs.LentBoardRequests.{board_request_of}
 use Rattle.gtfs_cli.specs.BoardCommand.{IsOpeningCause}
 use Rattle.gtfs_cli.specs.declared.commands.refusal.Refusal.{Refusal}

@@ -1,10 +1,10 @@
 use Rattle.std.proofs.Common.{◌≡◌, ◌∙◌, ap, map, inl, inr, refl, subst, List, Result}
 use Rattle.std.specs.Str.Lines.{lines}
 use Rattle.gtfs_days.specs.Zone.{zone_origin}
-use Rattle.gtfs_rows.specs.Views.{content_of_parts}
+use Rattle.gtfs_rows.specs.RowsInMemory.{content_of_parts}
 use Rattle.gtfs_cli.specs.BoardsCommand.{AreAllBoards, BeginsBoard, BeginsWhole, IsRequestsFault, StopsInAll}
 use Rattle.gtfs_cli.specs.BoardsRequests.{numbered_from, requests_in, StopRequest}
-use Rattle.gtfs_cli.specs.Sending.{or_none, Output, PrintsText}
+use Rattle.gtfs_cli.specs.SentText.{or_none, Output, PrintsText}
 use Rattle.gtfs_cli.specs.declared.commands.boards.request_fault.RequestFault.{RequestFault}
 use Rattle.gtfs_cli.specs.declared.commands.refusal.Refusal.TheVariants.{OutOfMemory, Unreadable}
 use Rattle.gtfs_cli.proofs.BoardsPrinted.{lines-fault}

@@ -1,9 +1,9 @@
 use Rattle.std.proofs.Common.{◌∙◌, inl, inr, refl, subst, sym, map}
 use Rattle.gtfs_days.specs.Zone.{zone_origin}
-use Rattle.gtfs_rows.specs.Views.{content_of_parts}
+use Rattle.gtfs_rows.specs.RowsInMemory.{content_of_parts}
 use Rattle.gtfs_rows.specs.declared.parts.Parts.{Parts as Feed}
 use Rattle.gtfs_cli.specs.BoardsCommand.{AreAllBoards, BeginsBoard, BeginsWhole, IsRequestsFault, StopsInAll}
-use Rattle.gtfs_cli.specs.Sending.{or_none, Output, PrintsText}
+use Rattle.gtfs_cli.specs.SentText.{or_none, Output, PrintsText}
 use Rattle.gtfs_cli.specs.declared.commands.refusal.Refusal.TheVariants.{Line, OutOfMemory}
 use Rattle.gtfs_cli.proofs.Plans.{no-cause, not-failed, prints-as, prints-refused}
 use Rattle.gtfs_cli.proofs.RequestLines.{asked_from, refused_by}

@@ -1,10 +1,10 @@
 use Rattle.std.proofs.Common.{◌∙◌, ◌+◌, ap, sym, refl, arith, map}
 use Rattle.std.specs.Prelude.{option_map}
 use Rattle.gtfs_days.specs.Zone.{zone_origin}
-use Rattle.gtfs_rows.specs.Views.{content_of_parts}
+use Rattle.gtfs_rows.specs.RowsInMemory.{content_of_parts}
 use Rattle.gtfs_cli.specs.LentBoardRequests.{stop_request_of}
 use Rattle.gtfs_cli.specs.BoardsCommand.{AreAllBoards, BeginsBoard, BeginsWhole, StopsInAll}
-use Rattle.gtfs_cli.specs.Sending.{or_none}
+use Rattle.gtfs_cli.specs.SentText.{or_none}
 use Rattle.gtfs_cli.proofs.Plans.{prints-later, prints-up, prints-whole}
 use Rattle.gtfs_cli.proofs.RequestBoards.{at_line, none_printed, one-left, past_board, past_nothing, printed_all}
 use Rattle.gtfs_cli.proofs.RequestLines.{asked_from}

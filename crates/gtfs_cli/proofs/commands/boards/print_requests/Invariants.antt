@@ -1,5 +1,5 @@
 use Rattle.std.proofs.Common.{◌≡◌, ◌≤◌, map}
-use Rattle.gtfs_rows.specs.Views.{content_of_parts}
+use Rattle.gtfs_rows.specs.RowsInMemory.{content_of_parts}
 use Rattle.gtfs_cli.proofs.RequestBoards.{PrintedBefore}
 use Rattle.gtfs_cli.proofs.commands.boards.print_requests.Given as goal
 

@@ -1,6 +1,6 @@
 use Rattle.std.proofs.Common.{◌∙◌, ap}
 use Rattle.gtfs_schema.specs.Problems.{passes}
-use Rattle.gtfs_rows.specs.Reading.{content_of}
+use Rattle.gtfs_rows.specs.ContentRead.{content_of}
 use Rattle.gtfs_rules.proofs.ReportLaws.{passes_if}
 use Rattle.gtfs_cli.proofs.Checked.{none-drafted, not-passing, one-drafted}
 use Rattle.gtfs_cli.proofs.commands.check.draft_if_advised.Goals as goal

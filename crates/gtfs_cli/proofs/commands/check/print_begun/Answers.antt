@@ -3,8 +3,8 @@ use Rattle.std.specs.Prelude.{count_by, if◌then◌else◌, ◌&&◌, None, Som
 use Rattle.std.proofs.lemmas.List.{length-map}
 use Rattle.gtfs_schema.specs.Codes.{is_error}
 use Rattle.gtfs_schema.specs.Problems.{passes, Problem}
-use Rattle.gtfs_schema.specs.View.{problem_of}
-use Rattle.gtfs_rows.specs.Reading.{content_of}
+use Rattle.gtfs_schema.specs.ProblemTexts.{problem_of}
+use Rattle.gtfs_rows.specs.ContentRead.{content_of}
 use Rattle.gtfs_commands.specs.Words.{check_texts_of}
 use Rattle.gtfs_cli.specs.CheckLines.{problem_lines}
 use Rattle.gtfs_cli.proofs.Checked.{lines-stopped}

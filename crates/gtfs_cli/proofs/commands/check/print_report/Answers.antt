@@ -2,7 +2,7 @@ use Rattle.std.proofs.Common.{◌∙◌, Bool, Err, inl, inr, not, refl, subst, 
 use Rattle.std.proofs.lemmas.Result.{IfOk-weaker}
 use Rattle.gtfs_table.specs.declared.tables.Tables.{Tables}
 use Rattle.gtfs_schema.specs.Problems.{passes}
-use Rattle.gtfs_rows.specs.Reading.{content_of}
+use Rattle.gtfs_rows.specs.ContentRead.{content_of}
 use Rattle.gtfs_advice.specs.Advice.{advice}
 use Rattle.gtfs_commands.specs.Words.{check_texts_of}
 use Rattle.gtfs_cli.specs.CheckLines.{problem_lines}

@@ -1,6 +1,6 @@
 use Rattle.std.proofs.Common.{◌<◌, ap, length, rules, subst, Err}
 use Rattle.gtfs_devices.specs.declared.folders.FolderFault.{FolderFault}
-use Rattle.gtfs_table.specs.Reading.{RefusesDataset}
+use Rattle.gtfs_table.specs.TablesRead.{RefusesDataset}
 use Rattle.gtfs_cli.proofs.CallsMade.{some-calls}
 use Rattle.gtfs_cli.proofs.ReadsThen.{asks-fault}
 use Rattle.gtfs_cli.proofs.commands.folder.read_tables.Goals as goal

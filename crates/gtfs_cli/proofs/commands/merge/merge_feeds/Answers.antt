@@ -1,5 +1,5 @@
 use Rattle.std.proofs.Common.{◌∙◌, ap, subst, sym}
-use Rattle.gtfs_rows.specs.Views.{content_of_parts}
+use Rattle.gtfs_rows.specs.RowsInMemory.{content_of_parts}
 use Rattle.gtfs_merge.specs.Cutoff.{merged_as}
 use Rattle.gtfs_merge.specs.Merged.{is_too_large}
 use Rattle.gtfs_merge.specs.Merging.{IsRefusal}

@@ -1,7 +1,7 @@
 use Rattle.std.proofs.Common.{Bool, Err, Option, inl, refl, subst, arith}
 use Rattle.gtfs_devices.specs.Folder.{Store}
-use Rattle.gtfs_table.specs.Reading.{kept_files}
-use Rattle.gtfs_rows.specs.Views.{content_of_parts}
+use Rattle.gtfs_table.specs.TablesRead.{kept_files}
+use Rattle.gtfs_rows.specs.RowsInMemory.{content_of_parts}
 use Rattle.gtfs_rows.proofs.Passing.{written_form}
 use Rattle.gtfs_commands.specs.Words.{merge_texts_of}
 use Rattle.gtfs_cli.specs.RefusalOrder.{IsFirstBad}

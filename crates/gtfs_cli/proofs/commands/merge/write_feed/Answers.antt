@@ -3,11 +3,11 @@ use Rattle.std.specs.List.{All}
 use Rattle.std.proofs.lemmas.Bool.{eqb-false}
 use Rattle.std.proofs.lemmas.List.{take_all}
 use Rattle.std.proofs.lemmas.List.Elements.{All-more, All-nil}
-use Rattle.gtfs_table.specs.Reading.{kept_files}
+use Rattle.gtfs_table.specs.TablesRead.{kept_files}
 use Rattle.gtfs_table.proofs.FolderFacts.{calls-none}
 use Rattle.gtfs_table.specs.declared.file.File.{File}
 use Rattle.gtfs_table.specs.declared.file.File.TheVariants as file
-use Rattle.gtfs_rows.specs.Views.{content_of_parts}
+use Rattle.gtfs_rows.specs.RowsInMemory.{content_of_parts}
 use Rattle.gtfs_cli.specs.MergeParts.{ReadsAs}
 use Rattle.gtfs_cli.specs.MergeCommand.{IsWritingEnd}
 use Rattle.gtfs_cli.proofs.Filed.{file-ends, file-held, files-held, none-held}

@@ -1,8 +1,8 @@
 use Rattle.std.proofs.Common.{◌≤◌, take, Ok}
 use Rattle.std.specs.Prelude.{⊤}
 use Rattle.std.specs.List.{All}
-use Rattle.gtfs_table.specs.Reading.{kept_files}
-use Rattle.gtfs_rows.specs.Views.{content_of_parts}
+use Rattle.gtfs_table.specs.TablesRead.{kept_files}
+use Rattle.gtfs_rows.specs.RowsInMemory.{content_of_parts}
 use Rattle.gtfs_cli.specs.MergeParts.{ReadsAs}
 use Rattle.gtfs_cli.specs.MergeCommand.{HoldsFiles}
 use Rattle.gtfs_cli.specs.FolderCalls.{CallsFolders}

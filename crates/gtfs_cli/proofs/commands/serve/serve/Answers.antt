@@ -7,7 +7,7 @@ use Rattle.gtfs_cli.specs.CommandPlan.{Ends}
 use Rattle.gtfs_cli.specs.DevicesSeen.{Output, Talk}
 use Rattle.gtfs_cli.specs.ServeCommand.{serve_plan, Converses}
 use Rattle.gtfs_cli.specs.declared.commands.refusal.Refusal.{Refusal}
-use Rattle.gtfs_rows.specs.Views.{content_of_parts}
+use Rattle.gtfs_rows.specs.RowsInMemory.{content_of_parts}
 use Rattle.gtfs_times.specs.declared.times.Times.{Times}
 use Rattle.gtfs_cli.proofs.BoardParts.{has-passing}
 use Rattle.gtfs_cli.proofs.Plans.{ends-refused, err-up}

@@ -1,5 +1,5 @@
 use Rattle.std.proofs.Common.{◌∙◌, ap, map}
-use Rattle.gtfs_rows.specs.Views.{content_of_parts}
+use Rattle.gtfs_rows.specs.RowsInMemory.{content_of_parts}
 use Rattle.gtfs_board.specs.LentSheets.{plain_sheet}
 use Rattle.gtfs_cli.specs.TimetableCommand.{timetable_request_of}
 use Rattle.gtfs_cli.proofs.Tabled.{sheets-printed, sheets-refused}

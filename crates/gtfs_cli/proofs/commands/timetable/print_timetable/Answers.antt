@@ -3,7 +3,7 @@ use Rattle.gtfs_commands.specs.Words.{timetable_texts_of}
 use Rattle.gtfs_cli.specs.RefusalOrder.{IsFirstBad}
 use Rattle.gtfs_cli.specs.CommandPlan.{Ends}
 use Rattle.gtfs_cli.specs.ReadingCauses.{IsReadingCause}
-use Rattle.gtfs_cli.specs.Sending.{Begins}
+use Rattle.gtfs_cli.specs.SentText.{Begins}
 use Rattle.gtfs_cli.specs.TimetableOptions.{judged_timetable}
 use Rattle.gtfs_cli.specs.TimetableCommand.{timetable_judges, timetable_plan, timetable_request_of, IsTimetablePart, IsTimetableText}
 use Rattle.gtfs_cli.specs.declared.commands.refusal.Refusal.{Refusal}

@@ -1,5 +1,5 @@
 use Rattle.std.proofs.Common.{◌∙◌, ◌++◌, ap, append_assoc, codes, string_bytes}
-use Rattle.gtfs_table.specs.Files.{file_name}
+use Rattle.gtfs_table.specs.FileNames.{file_name}
 use Rattle.gtfs_advice.specs.Advice.{about_of}
 use Rattle.gtfs_advice.specs.Codes.{advice_name, advice_text, file_of}
 use Rattle.gtfs_cli.specs.AdviceLines.{about_text}

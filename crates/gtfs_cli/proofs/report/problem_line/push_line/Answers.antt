@@ -1,6 +1,6 @@
 use Rattle.std.proofs.Common.{codes, string_bytes}
 use Rattle.std.specs.Prelude.{option_map}
-use Rattle.gtfs_schema.specs.View.{problem_of}
+use Rattle.gtfs_schema.specs.ProblemTexts.{problem_of}
 use Rattle.gtfs_rules.specs.Report.{problem_line}
 use Rattle.gtfs_cli.specs.CheckLines.{count_shown, values_shown, without_end}
 use Rattle.gtfs_cli.proofs.ShownValues.{four-parts, pushed-as}

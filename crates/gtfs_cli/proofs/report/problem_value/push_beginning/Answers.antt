@@ -1,7 +1,7 @@
 use Rattle.std.proofs.Common.{◌≡◌, ◌∙◌, ◌++◌, ℕ, map, ap, sym, append_assoc, chars, encode_utf8, encode_utf8_all, string_bytes, take}
 use Rattle.std.proofs.lemmas.Iterator.{items_from_drains, YieldsList-from_chars, YieldsList-from_take}
 use Rattle.std.proofs.lemmas.List.{map-id}
-use Rattle.gtfs_schema.specs.Values.{plain}
+use Rattle.gtfs_schema.specs.FieldValues.{plain}
 use Rattle.gtfs_cli.proofs.ShownValues.{plain-more}
 use Rattle.gtfs_cli.proofs.report.problem_value.push_beginning.Goals as goal
 

@@ -1,7 +1,7 @@
 use Rattle.std.proofs.Common.{◌≡◌, ◌∙◌, ◌++◌, ap, append_assoc, chars, codes, encode_utf8_all, length, string_bytes, take}
 use Rattle.std.proofs.lemmas.Iterator.{YieldsList-from_chars}
 use Rattle.std.proofs.lemmas.Iterator.Consumers.{count_from_yields_List}
-use Rattle.gtfs_schema.specs.Values.{plain}
+use Rattle.gtfs_schema.specs.FieldValues.{plain}
 use Rattle.gtfs_cli.proofs.ShownValues.{plain-cut, plain-whole, pushed-as}
 use Rattle.gtfs_cli.proofs.report.problem_value.push_shown.Goals as goal
 

@@ -1,7 +1,7 @@
 use Rattle.std.proofs.Common.{◌≡◌, ◌∙◌, ap, subst, sym}
 use Rattle.std.proofs.lemmas.Result.{IfOk-weaker}
-use Rattle.gtfs_feed.specs.Draft.{parts_with}
-use Rattle.gtfs_rows.specs.Views.{IsSoundParts}
+use Rattle.gtfs_feed.specs.FeedDrafts.{parts_with}
+use Rattle.gtfs_rows.specs.RowsInMemory.{IsSoundParts}
 use Rattle.gtfs_feed.proofs.draft.FeedDraft.into_feed.Goals as goal
 
 pub assemble-requires : goal.assemble-requires

@@ -4,7 +4,7 @@ use Rattle.gtfs_schema.specs.steps.FeedIds.{AreIdsOf}
 use Rattle.gtfs_rules.specs.StopTimes.{AreStopTimes}
 use Rattle.gtfs_reading.specs.FeedRows.{AreRowsOf}
 use Rattle.gtfs_reading.specs.StopTimeLists.{AreStopTimesOf}
-use Rattle.gtfs_feed.specs.Draft.{parts_with}
+use Rattle.gtfs_feed.specs.FeedDrafts.{parts_with}
 use Rattle.gtfs_feed.proofs.ReadRows.{content_is, make_a_feed}
 use Rattle.gtfs_reading.proofs.StopTimesAdded.{content_is as content_with}
 use Rattle.gtfs_feed.proofs.draft.FeedDraft.new.Goals as goal

@@ -1,9 +1,9 @@
 use Rattle.std.proofs.Common.{◌≡◌, subst, Some, string_bytes}
 use Rattle.std.specs.Prelude.{IfOk}
 use Rattle.gtfs_table.specs.Tables.{table_of}
-use Rattle.gtfs_table.specs.Written.{text_of_table}
-use Rattle.gtfs_rows.specs.Views.{content_of_parts}
-use Rattle.gtfs_rows.specs.Written.{written}
+use Rattle.gtfs_table.specs.TableTexts.{text_of_table}
+use Rattle.gtfs_rows.specs.RowsInMemory.{content_of_parts}
+use Rattle.gtfs_rows.specs.WrittenContent.{written}
 use Rattle.gtfs_feed.proofs.feed.Feed.file_text.Goals as goal
 
 pub returns-clause-text : goal.returns-clause-text

@@ -1,8 +1,8 @@
 use Rattle.std.proofs.Common.{◌≡◌, subst}
 use Rattle.std.specs.List.{list_any}
 use Rattle.std.specs.Prelude.{IfOk}
-use Rattle.gtfs_table.specs.Reading.{kept_files}
-use Rattle.gtfs_rows.specs.Views.{content_of_parts}
+use Rattle.gtfs_table.specs.TablesRead.{kept_files}
+use Rattle.gtfs_rows.specs.RowsInMemory.{content_of_parts}
 use Rattle.gtfs_rows.specs.FileTexts.{is_longer}
 use Rattle.gtfs_feed.proofs.feed.Feed.has_longer_file.Goals as goal
 

@@ -1,10 +1,10 @@
 use Rattle.std.proofs.Common.{◌≡◌, ◌∙◌, ap, sym, subst, map}
 use Rattle.std.proofs.lemmas.Result.{IfOk-weaker}
-use Rattle.gtfs_table.specs.Parts.{parts}
+use Rattle.gtfs_table.specs.FieldOffsets.{parts}
 use Rattle.gtfs_schema.specs.Problems.{Passes}
 use Rattle.gtfs_schema.specs.steps.FeedIds.{AreIdsOf}
-use Rattle.gtfs_rows.specs.Reading.{content_of as content_of_dataset}
-use Rattle.gtfs_rows.specs.Views.{content_of_parts, stop_row_of}
+use Rattle.gtfs_rows.specs.ContentRead.{content_of as content_of_dataset}
+use Rattle.gtfs_rows.specs.RowsInMemory.{content_of_parts, stop_row_of}
 use Rattle.gtfs_reading.specs.FeedRows.{AreRowsOf}
 use Rattle.gtfs_reading.specs.FirstNamed.{headsigns_in}
 use Rattle.gtfs_feed.proofs.ReadRows.{content_is, make_a_feed}

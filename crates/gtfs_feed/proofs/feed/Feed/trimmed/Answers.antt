@@ -1,7 +1,7 @@
 use Rattle.std.proofs.Common.{◌≡◌, ◌∙◌, ap, subst, sym}
 use Rattle.std.proofs.lemmas.Result.{IfOk-weaker}
-use Rattle.gtfs_rows.specs.Trimmed.{trimmed, trimmed_parts}
-use Rattle.gtfs_rows.specs.Views.{IsSoundParts, content_of_parts}
+use Rattle.gtfs_rows.specs.TrimmedContent.{trimmed, trimmed_parts}
+use Rattle.gtfs_rows.specs.RowsInMemory.{IsSoundParts, content_of_parts}
 use Rattle.gtfs_rows.proofs.TrimmedParts.{content-trimmed, sound-parts}
 use Rattle.gtfs_feed.proofs.feed.Feed.trimmed.Goals as goal
 

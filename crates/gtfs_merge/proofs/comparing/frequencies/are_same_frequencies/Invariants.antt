@@ -1,6 +1,6 @@
 use Rattle.std.proofs.Common.{◌≡◌}
-use Rattle.gtfs_rows.specs.Views.{frequency_of}
-use Rattle.gtfs_merge.specs.Same.{same_frequency}
+use Rattle.gtfs_rows.specs.RowsInMemory.{frequency_of}
+use Rattle.gtfs_merge.specs.SameRows.{same_frequency}
 use Rattle.gtfs_merge.specs.SameByNumber.{same_frequencies_in}
 use Rattle.gtfs_merge.proofs.SameLists.{same_from}
 use Rattle.gtfs_merge.proofs.comparing.frequencies.are_same_frequencies.Given as goal

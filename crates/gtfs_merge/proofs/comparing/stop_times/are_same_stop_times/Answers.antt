@@ -1,10 +1,10 @@
 use Rattle.std.proofs.Common.{◌<◌, ◌∙◌, length, map, ap, sym, arith}
 use Rattle.std.specs.Cmp.Lexicographic.{pointwise}
 use Rattle.std.proofs.lemmas.Simd.{map-map}
-use Rattle.gtfs_rows.specs.Views.{stop_row_of}
+use Rattle.gtfs_rows.specs.RowsInMemory.{stop_row_of}
 use Rattle.gtfs_merge.specs.Renaming.{stop_b, stop_row_with}
-use Rattle.gtfs_merge.specs.Same.{same_stop_row}
-use Rattle.gtfs_merge.specs.Sides.{content_a, content_b, nearness_of}
+use Rattle.gtfs_merge.specs.SameRows.{same_stop_row}
+use Rattle.gtfs_merge.specs.MergedSides.{content_a, content_b, nearness_of}
 use Rattle.gtfs_merge.proofs.SameLists.{same-more, same-not}
 use Rattle.gtfs_merge.proofs.comparing.stop_times.are_same_stop_times.Goals as goal
 

@@ -1,9 +1,9 @@
 use Rattle.std.proofs.Common.{◌≡◌}
-use Rattle.gtfs_rows.specs.Views.{stop_row_of}
+use Rattle.gtfs_rows.specs.RowsInMemory.{stop_row_of}
 use Rattle.gtfs_merge.specs.Renaming.{stop_b, stop_row_with}
-use Rattle.gtfs_merge.specs.Same.{same_stop_row}
+use Rattle.gtfs_merge.specs.SameRows.{same_stop_row}
 use Rattle.gtfs_merge.specs.SameByNumber.{same_stop_rows_in}
-use Rattle.gtfs_merge.specs.Sides.{content_a, content_b, nearness_of}
+use Rattle.gtfs_merge.specs.MergedSides.{content_a, content_b, nearness_of}
 use Rattle.gtfs_merge.proofs.SameLists.{same_from}
 use Rattle.gtfs_merge.proofs.comparing.stop_times.are_same_stop_times.Given as goal
 

@@ -1,6 +1,6 @@
 use Rattle.std.proofs.Common.{sym}
 use Rattle.gtfs_merge.specs.Renaming.{stop_b}
-use Rattle.gtfs_merge.specs.Sides.{content_a, content_b, nearness_of}
+use Rattle.gtfs_merge.specs.MergedSides.{content_a, content_b, nearness_of}
 use Rattle.gtfs_merge.proofs.JoinedStopTimes.{stop-meets}
 use Rattle.gtfs_merge.proofs.comparing.stop_times.is_same_stop_time.Goals as goal
 

@@ -1,6 +1,6 @@
 use Rattle.std.proofs.Common.{◌∙◌, bytes_eq, Some, None, ap, sym}
 use Rattle.std.specs.Prelude.{if◌then◌else◌, position}
-use Rattle.gtfs_rows.specs.Views.{agency_ids}
+use Rattle.gtfs_rows.specs.RowsInMemory.{agency_ids}
 use Rattle.gtfs_merge.proofs.JoinedKinds.{agency-joined}
 use Rattle.gtfs_merge.proofs.joining.agencies.joined_agency.Goals as goal
 

@@ -1,7 +1,7 @@
 use Rattle.std.proofs.Common.{◌∙◌, bytes_eq, Some, None, ap, sym, arith}
 use Rattle.std.proofs.lemmas.List.{length-map}
 use Rattle.std.specs.Prelude.{if◌then◌else◌, position}
-use Rattle.gtfs_rows.specs.Views.{route_ids}
+use Rattle.gtfs_rows.specs.RowsInMemory.{route_ids}
 use Rattle.gtfs_rows.proofs.NumberFacts.{route_agency}
 use Rattle.gtfs_merge.specs.declared.kind.Kind.TheVariants as kind
 use Rattle.gtfs_merge.proofs.JoinedNames.{route-joined, joined-length}

@@ -1,5 +1,5 @@
 use Rattle.std.proofs.Common.{◌≡◌, map, option_map, take}
-use Rattle.gtfs_rows.specs.Views.{service_ids}
+use Rattle.gtfs_rows.specs.RowsInMemory.{service_ids}
 use Rattle.gtfs_merge.specs.JoinedNumbers.{joined_number}
 use Rattle.gtfs_merge.specs.declared.kind.Kind.TheVariants as kind
 use Rattle.gtfs_merge.proofs.joining.services.joined_services.Given as goal

@@ -1,9 +1,9 @@
 use Rattle.std.proofs.Common.{◌≡◌, ◌-◌, ◌∙◌, suc, bytes_eq, ap, sym, arith}
 use Rattle.std.specs.Prelude.{option_and_then, position}
-use Rattle.gtfs_rows.specs.Views.{stop_ids, text_of_number}
+use Rattle.gtfs_rows.specs.RowsInMemory.{stop_ids, text_of_number}
 use Rattle.gtfs_merge.specs.Twins.{became}
 use Rattle.gtfs_merge.specs.Renaming.{stop_within}
-use Rattle.gtfs_merge.specs.Sides.{content_a, content_b, nearness_of}
+use Rattle.gtfs_merge.specs.MergedSides.{content_a, content_b, nearness_of}
 use Rattle.gtfs_merge.proofs.JoinedStops.{own-generation, next-generation, parent-within}
 use Rattle.gtfs_merge.proofs.joining.stop_twins.+stop_within.Goals as goal
 

@@ -1,5 +1,5 @@
 use Rattle.std.proofs.Common.{◌≡◌, map, option_map, take}
-use Rattle.gtfs_rows.specs.Views.{stop_ids}
+use Rattle.gtfs_rows.specs.RowsInMemory.{stop_ids}
 use Rattle.gtfs_merge.specs.Twins.{twin_number}
 use Rattle.gtfs_merge.specs.declared.kind.Kind.TheVariants as kind
 use Rattle.gtfs_merge.proofs.joining.stop_twins.all_twins.Given as goal

@@ -1,6 +1,6 @@
 use Rattle.std.proofs.Common.{arith}
-use Rattle.gtfs_merge.specs.Law.{AreFew}
-use Rattle.gtfs_merge.specs.Sides.{content_a, content_b}
+use Rattle.gtfs_merge.specs.MergedDepartures.{AreFew}
+use Rattle.gtfs_merge.specs.MergedSides.{content_a, content_b}
 use Rattle.gtfs_merge.specs.declared.kind.Kind.TheVariants as kind
 use Rattle.gtfs_merge.proofs.JoinedStops.{twin-joined, twin-near}
 use Rattle.gtfs_merge.proofs.joining.stop_twins.stop_twin.Goals as goal

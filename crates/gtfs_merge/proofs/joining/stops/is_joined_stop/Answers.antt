@@ -1,6 +1,6 @@
 use Rattle.std.proofs.Common.{◌∙◌}
 use Rattle.gtfs_merge.specs.Renaming.{stop_b}
-use Rattle.gtfs_merge.specs.Sides.{content_a, content_b, nearness_of}
+use Rattle.gtfs_merge.specs.MergedSides.{content_a, content_b, nearness_of}
 use Rattle.gtfs_merge.proofs.StopTwins.{parent-there, parent-twin, stop-flag}
 use Rattle.gtfs_merge.proofs.joining.stops.is_joined_stop.Goals as goal
 

@@ -1,7 +1,7 @@
 use Rattle.std.proofs.Common.{◌<◌, ◌≤◌, ◌∙◌, [], ap, length, map, arith}
 use Rattle.std.proofs.lemmas.List.{length-map, take_all}
-use Rattle.gtfs_rows.specs.Views.{stop_ids}
-use Rattle.gtfs_merge.specs.Sides.{is_joined_id}
+use Rattle.gtfs_rows.specs.RowsInMemory.{stop_ids}
+use Rattle.gtfs_merge.specs.MergedSides.{is_joined_id}
 use Rattle.gtfs_merge.specs.declared.kind.Kind.TheVariants as kind
 use Rattle.gtfs_merge.proofs.StopTwins.{flags-more}
 use Rattle.gtfs_merge.proofs.joining.stops.joined_flags.Goals as goal

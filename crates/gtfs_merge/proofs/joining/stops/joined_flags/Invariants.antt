@@ -1,6 +1,6 @@
 use Rattle.std.proofs.Common.{◌≡◌, map, take}
-use Rattle.gtfs_rows.specs.Views.{stop_ids}
-use Rattle.gtfs_merge.specs.Sides.{is_joined_id}
+use Rattle.gtfs_rows.specs.RowsInMemory.{stop_ids}
+use Rattle.gtfs_merge.specs.MergedSides.{is_joined_id}
 use Rattle.gtfs_merge.specs.declared.kind.Kind.TheVariants as kind
 use Rattle.gtfs_merge.proofs.joining.stops.joined_flags.Given as goal
 

@@ -1,6 +1,6 @@
 use Rattle.std.proofs.Common.{◌∙◌, bytes_eq, true, false, ap, refl, sym}
 use Rattle.std.specs.Prelude.{◌&&◌, position}
-use Rattle.gtfs_rows.specs.Views.{stop_ids}
+use Rattle.gtfs_rows.specs.RowsInMemory.{stop_ids}
 use Rattle.gtfs_merge.specs.SameByNumber.{same_parent_in}
 use Rattle.gtfs_merge.proofs.JoinedStops.{stop-joined}
 use Rattle.gtfs_merge.proofs.joining.stops.joined_stop.Goals as goal

@@ -5,7 +5,7 @@ use Rattle.gtfs_rows.proofs.NumberFacts.{trip_route, trip_service}
 use Rattle.gtfs_rows.proofs.TripFacts.{stop_times}
 use Rattle.gtfs_merge.specs.Renaming.{route_b, service_b, stop_b}
 use Rattle.gtfs_merge.specs.SameByNumber.{same_frequencies_in, same_stop_rows_in}
-use Rattle.gtfs_merge.specs.Sides.{content_a, content_b, nearness_of}
+use Rattle.gtfs_merge.specs.MergedSides.{content_a, content_b, nearness_of}
 use Rattle.gtfs_merge.specs.declared.kind.Kind.TheVariants as kind
 use Rattle.gtfs_merge.proofs.JoinedNames.{joined-length}
 use Rattle.gtfs_merge.proofs.JoinedTrips.{route-meets, service-meets, trip-same}

@@ -1,6 +1,6 @@
 use Rattle.std.proofs.Common.{◌∙◌, bytes_eq, Some, None, ap, refl, sym}
 use Rattle.std.specs.Prelude.{if◌then◌else◌, position}
-use Rattle.gtfs_rows.specs.Views.{trip_ids}
+use Rattle.gtfs_rows.specs.RowsInMemory.{trip_ids}
 use Rattle.gtfs_merge.proofs.JoinedKinds.{id-at}
 use Rattle.gtfs_merge.proofs.JoinedTrips.{content-at, number-below, trip-joined}
 use Rattle.gtfs_merge.proofs.joining.trips.joined_trip.Goals as goal

@@ -1,6 +1,6 @@
 use Rattle.std.proofs.Common.{◌<◌, ◌≤◌, ◌∙◌, [], ap, length, map, option_map, arith}
 use Rattle.std.proofs.lemmas.List.{length-map, take_all}
-use Rattle.gtfs_rows.specs.Views.{trip_ids}
+use Rattle.gtfs_rows.specs.RowsInMemory.{trip_ids}
 use Rattle.gtfs_merge.specs.JoinedNumbers.{joined_number}
 use Rattle.gtfs_merge.specs.declared.kind.Kind.TheVariants as kind
 use Rattle.gtfs_merge.proofs.JoinedRows.{numbered_more}

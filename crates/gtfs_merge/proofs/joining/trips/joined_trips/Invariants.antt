@@ -1,5 +1,5 @@
 use Rattle.std.proofs.Common.{◌≡◌, map, option_map, take}
-use Rattle.gtfs_rows.specs.Views.{trip_ids}
+use Rattle.gtfs_rows.specs.RowsInMemory.{trip_ids}
 use Rattle.gtfs_merge.specs.JoinedNumbers.{joined_number}
 use Rattle.gtfs_merge.specs.declared.kind.Kind.TheVariants as kind
 use Rattle.gtfs_merge.proofs.joining.trips.joined_trips.Given as goal

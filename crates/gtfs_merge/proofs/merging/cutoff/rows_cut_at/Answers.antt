@@ -1,5 +1,5 @@
 use Rattle.std.specs.Cow.{cow_value}
-use Rattle.gtfs_rows.specs.Views.{content_of_parts}
+use Rattle.gtfs_rows.specs.RowsInMemory.{content_of_parts}
 use Rattle.gtfs_merge.proofs.CutMerges.{rows-of-trimmed}
 use Rattle.gtfs_merge.proofs.merging.cutoff.rows_cut_at.Goals as goal
 

@@ -1,7 +1,7 @@
 use Rattle.std.proofs.Common.{◌≡◌, subst}
 use Rattle.std.specs.Prelude.{IfOk}
-use Rattle.gtfs_rows.specs.Trimmed.{trimmed}
-use Rattle.gtfs_rows.specs.Views.{content_of_parts}
+use Rattle.gtfs_rows.specs.TrimmedContent.{trimmed}
+use Rattle.gtfs_rows.specs.RowsInMemory.{content_of_parts}
 use Rattle.gtfs_merge.proofs.merging.cutoff.trimmed.Goals as goal
 
 pub returns : goal.returns

@@ -2,8 +2,8 @@ use Rattle.std.proofs.Common.{◌≡◌, ◌∙◌, ℕ, Bool, ap, refl, sym}
 use Rattle.std.specs.List.{list_any}
 use Rattle.gtfs_rows.specs.Content.{Content}
 use Rattle.gtfs_rows.specs.FileTexts.{is_longer}
-use Rattle.gtfs_rows.specs.Views.{content_of_parts}
-use Rattle.gtfs_table.specs.Reading.{kept_files}
+use Rattle.gtfs_rows.specs.RowsInMemory.{content_of_parts}
+use Rattle.gtfs_table.specs.TablesRead.{kept_files}
 use Rattle.gtfs_merge.specs.Merged.{is_too_large}
 use Rattle.gtfs_merge.proofs.merging.file_limit.limited.Goals as goal
 

@@ -1,7 +1,7 @@
 use Rattle.std.proofs.Common.{◌≡◌, ◌∙◌, ap, length, subst, sym}
 use Rattle.std.specs.List.{All}
-use Rattle.gtfs_stop_times.specs.ByTrip.{StopTimesOfTrips}
-use Rattle.gtfs_stop_times.specs.Joined.{IsTripOf}
+use Rattle.gtfs_stop_times.specs.StopTimesByTrip.{StopTimesOfTrips}
+use Rattle.gtfs_stop_times.specs.JoinedStopTimes.{IsTripOf}
 use Rattle.gtfs_merge.proofs.merging.steps.rows_of_pair.Goals as goal
 
 pub with_stop_times-requires-clause-trips : goal.with_stop_times-requires-clause-trips

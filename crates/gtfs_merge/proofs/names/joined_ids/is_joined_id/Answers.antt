@@ -1,6 +1,6 @@
 use Rattle.std.proofs.Common.{◌∙◌, ap, sym}
 use Rattle.gtfs_merge.specs.FeedIds.{known_ids}
-use Rattle.gtfs_merge.specs.Sides.{is_joined_id}
+use Rattle.gtfs_merge.specs.MergedSides.{is_joined_id}
 use Rattle.gtfs_merge.proofs.JoinedIds.{own-index, told-not-there}
 use Rattle.gtfs_merge.proofs.names.joined_ids.is_joined_id.Goals as goal
 

@@ -1,7 +1,7 @@
 use Rattle.std.proofs.Common.{◌∙◌, ap, arith, length, sym}
 use Rattle.std.proofs.lemmas.List.{length-map}
-use Rattle.gtfs_rows.specs.Views.{stop_ids}
-use Rattle.gtfs_merge.specs.Sides.{is_joined_id}
+use Rattle.gtfs_rows.specs.RowsInMemory.{stop_ids}
+use Rattle.gtfs_merge.specs.MergedSides.{is_joined_id}
 use Rattle.gtfs_merge.specs.Twins.{is_joined_at, of_kind, twin_number}
 use Rattle.gtfs_merge.specs.declared.kind.Kind.TheVariants as kind
 use Rattle.gtfs_merge.proofs.JoinedIds.{of-kind-length}

@@ -1,7 +1,7 @@
 use Rattle.std.proofs.Common.{◌<◌, ◌≤◌, ◌∙◌, ap, arith, filter, length, refl, sym}
 use Rattle.std.proofs.lemmas.List.{take_all}
 use Rattle.gtfs_merge.specs.FeedIds.{known_ids}
-use Rattle.gtfs_merge.specs.Sides.{is_joined_id}
+use Rattle.gtfs_merge.specs.MergedSides.{is_joined_id}
 use Rattle.gtfs_merge.proofs.JoinedKinds.{ids-known}
 use Rattle.gtfs_merge.proofs.NamesFacts.{joined-alike, joined-further}
 use Rattle.gtfs_merge.proofs.names.joined_ids.joined_ids.Goals as goal

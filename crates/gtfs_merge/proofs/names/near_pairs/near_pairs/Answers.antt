@@ -1,5 +1,5 @@
 use Rattle.std.proofs.Common.{◌<◌, ◌≤◌, arith, length}
-use Rattle.gtfs_rows.specs.Views.{stop_ids}
+use Rattle.gtfs_rows.specs.RowsInMemory.{stop_ids}
 use Rattle.gtfs_merge.proofs.NearPairs.{all-pairs, pairs-more}
 use Rattle.gtfs_merge.proofs.names.near_pairs.near_pairs.Goals as goal
 

@@ -1,7 +1,7 @@
 use Rattle.std.proofs.Common.{◌≡◌, take}
 use Rattle.std.specs.Prelude.{filter_map}
-use Rattle.gtfs_merge.specs.Near.{near_pair}
-use Rattle.gtfs_merge.specs.Sides.{content_a, content_b, nearness_of}
+use Rattle.gtfs_merge.specs.NearStops.{near_pair}
+use Rattle.gtfs_merge.specs.MergedSides.{content_a, content_b, nearness_of}
 use Rattle.gtfs_merge.proofs.names.near_pairs.near_pairs.Given as goal
 
 -- the pairs so far

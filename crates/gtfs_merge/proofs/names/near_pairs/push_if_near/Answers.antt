@@ -1,8 +1,8 @@
 use Rattle.std.proofs.Common.{◌≡◌, ◌++◌, ◌∙◌, Some, None, ap, arith, length, subst, sym, append-nil}
 use Rattle.std.specs.Prelude.{OnOk}
 use Rattle.std.proofs.lemmas.List.{length-map}
-use Rattle.gtfs_rows.specs.Views.{stop_ids}
-use Rattle.gtfs_merge.specs.Sides.{is_joined_id}
+use Rattle.gtfs_rows.specs.RowsInMemory.{stop_ids}
+use Rattle.gtfs_merge.specs.MergedSides.{is_joined_id}
 use Rattle.gtfs_merge.specs.Twins.{near_at, pairs_at, twin_number, twin_rows}
 use Rattle.gtfs_merge.specs.declared.kind.Kind.TheVariants as kind
 use Rattle.gtfs_merge.proofs.NearPairs.{near-within}

@@ -1,5 +1,5 @@
 use Rattle.std.proofs.Common.{◌∙◌, codes, false, sym, true, []}
-use Rattle.gtfs_merge.specs.Sides.{content_a, content_b}
+use Rattle.gtfs_merge.specs.MergedSides.{content_a, content_b}
 use Rattle.gtfs_merge.specs.declared.kind.Kind.TheVariants as kind
 use Rattle.gtfs_merge.proofs.NewIdRules.{few-taken, has-known, on-ok, only-name, second-name, taken-known}
 use Rattle.gtfs_merge.proofs.names.new_ids.new_agency_id_of_b.Goals as goal

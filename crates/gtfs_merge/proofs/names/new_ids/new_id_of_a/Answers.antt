@@ -1,5 +1,5 @@
 use Rattle.std.proofs.Common.{◌∙◌, codes, sym, true}
-use Rattle.gtfs_merge.specs.Sides.{content_a, content_b, nearness_of}
+use Rattle.gtfs_merge.specs.MergedSides.{content_a, content_b, nearness_of}
 use Rattle.gtfs_merge.specs.declared.kind.Kind.TheVariants as kind
 use Rattle.gtfs_merge.proofs.NewIdRules.{few-taken, new-a, taken-known}
 use Rattle.gtfs_merge.proofs.names.new_ids.new_id_of_a.Goals as goal

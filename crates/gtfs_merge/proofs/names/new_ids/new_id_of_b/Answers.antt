@@ -1,7 +1,7 @@
 use Rattle.std.proofs.Common.{◌∙◌, sym}
 use Rattle.gtfs_merge.specs.FeedIds.{known_ids}
 use Rattle.gtfs_merge.specs.Renaming.{renaming}
-use Rattle.gtfs_merge.specs.Sides.{side_names}
+use Rattle.gtfs_merge.specs.MergedSides.{side_names}
 use Rattle.gtfs_merge.specs.declared.kind.Side.TheVariants as side
 use Rattle.gtfs_merge.proofs.JoinedIds.{own-index}
 use Rattle.gtfs_merge.proofs.NewIdRules.{on-ok}

@@ -1,8 +1,8 @@
 use Rattle.std.proofs.Common.{◌≡◌, ◌∙◌, true, false, not, ap, sym, is_some, arith}
 use Rattle.std.specs.Prelude.{◌&&◌}
-use Rattle.gtfs_merge.specs.Law.{AreFew}
+use Rattle.gtfs_merge.specs.MergedDepartures.{AreFew}
 use Rattle.gtfs_merge.specs.Renaming.{lists_id, ids, renaming}
-use Rattle.gtfs_merge.specs.Sides.{content_a, content_b, is_joined_id, nearness_of, side_names}
+use Rattle.gtfs_merge.specs.MergedSides.{content_a, content_b, is_joined_id, nearness_of, side_names}
 use Rattle.gtfs_merge.specs.declared.kind.Kind.TheVariants as kind
 use Rattle.gtfs_merge.specs.declared.kind.Side.TheVariants as side
 use Rattle.gtfs_merge.proofs.MergesOfKinds.{has-twin}

@@ -1,6 +1,6 @@
 use Rattle.gtfs_merge.specs.FeedIds.{known_ids}
 use Rattle.gtfs_merge.specs.Renaming.{renaming}
-use Rattle.gtfs_merge.specs.Sides.{side_names}
+use Rattle.gtfs_merge.specs.MergedSides.{side_names}
 use Rattle.gtfs_merge.specs.declared.kind.Side.TheVariants as side
 use Rattle.gtfs_merge.proofs.RenamedLists.{AreNamed}
 use Rattle.gtfs_merge.proofs.names.renamed.names_of_a.Given as goal

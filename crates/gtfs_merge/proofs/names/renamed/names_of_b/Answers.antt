@@ -1,7 +1,7 @@
 use Rattle.std.proofs.Common.{◌<◌, ◌≤◌, ◌∙◌, None, ap, arith, get_or, length, sym}
 use Rattle.gtfs_merge.specs.FeedIds.{known_ids}
 use Rattle.gtfs_merge.specs.Renaming.{lists_id, renaming}
-use Rattle.gtfs_merge.specs.Sides.{side_names}
+use Rattle.gtfs_merge.specs.MergedSides.{side_names}
 use Rattle.gtfs_merge.specs.Twins.{of_kind, twin_number}
 use Rattle.gtfs_merge.specs.declared.kind.Side.TheVariants as side
 use Rattle.gtfs_merge.proofs.JoinedIds.{of-kind-length, twin-at}

@@ -1,6 +1,6 @@
 use Rattle.std.proofs.Common.{◌≡◌, ◌∙◌, ◌++◌, ◌∷◌, [], None, true, false, cond, ap, append-nil, arith, get_or, is_some, length, map, not, sym}
 use Rattle.std.proofs.lemmas.List.{map-append}
-use Rattle.gtfs_merge.specs.Entries.{entry_of, entry_value, is_apart}
+use Rattle.gtfs_merge.specs.MergeEntries.{entry_of, entry_value, is_apart}
 use Rattle.gtfs_merge.specs.Twins.{of_kind}
 use Rattle.gtfs_merge.specs.declared.kind.Side.TheVariants as side
 use Rattle.gtfs_merge.proofs.JoinedIds.{of-kind-length, twin-at}

@@ -1,5 +1,5 @@
 use Rattle.std.proofs.Common.{map}
-use Rattle.gtfs_merge.specs.Entries.{entry_of, entry_value, is_apart}
+use Rattle.gtfs_merge.specs.MergeEntries.{entry_of, entry_value, is_apart}
 use Rattle.gtfs_merge.specs.declared.kind.Side.TheVariants as side
 use Rattle.gtfs_merge.proofs.Ordering.{passing-more}
 use Rattle.gtfs_merge.proofs.numbering.sorted_rows.add_of_b.Goals as goal

@@ -1,6 +1,6 @@
 use Rattle.std.proofs.Common.{◌≡◌, ◌++◌, filter, map}
 use Rattle.std.specs.List.{range_with_len}
-use Rattle.gtfs_merge.specs.Entries.{entry_of, entry_value, is_apart}
+use Rattle.gtfs_merge.specs.MergeEntries.{entry_of, entry_value, is_apart}
 use Rattle.gtfs_merge.specs.declared.kind.Side.TheVariants as side
 use Rattle.gtfs_merge.proofs.numbering.sorted_rows.add_of_b.Given as goal
 

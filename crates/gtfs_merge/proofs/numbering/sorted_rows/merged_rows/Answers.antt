@@ -1,6 +1,6 @@
 use Rattle.std.proofs.Common.{◌++◌, ◌∙◌, ap, map, subst}
 use Rattle.std.specs.List.Sorted.{IsPermutation}
-use Rattle.gtfs_merge.specs.Entries.{entry_value, rows_of_b}
+use Rattle.gtfs_merge.specs.MergeEntries.{entry_value, rows_of_b}
 use Rattle.gtfs_merge.proofs.MergesOfKinds.{merged-rows}
 use Rattle.gtfs_merge.proofs.numbering.sorted_rows.merged_rows.Goals as goal
 

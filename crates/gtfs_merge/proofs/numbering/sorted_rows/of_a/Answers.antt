@@ -1,6 +1,6 @@
 use Rattle.std.proofs.Common.{◌∙◌, ◌++◌, ◌∷◌, [], ap, map}
 use Rattle.std.proofs.lemmas.List.{map-append}
-use Rattle.gtfs_merge.specs.Entries.{entry_of, entry_value}
+use Rattle.gtfs_merge.specs.MergeEntries.{entry_of, entry_value}
 use Rattle.gtfs_merge.specs.declared.kind.Side.TheVariants as side
 use Rattle.gtfs_merge.proofs.Ordering.{rows-more}
 use Rattle.gtfs_merge.proofs.numbering.sorted_rows.of_a.Goals as goal

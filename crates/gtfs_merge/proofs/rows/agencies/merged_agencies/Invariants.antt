@@ -1,6 +1,6 @@
 use Rattle.std.proofs.Common.{◌≡◌, Some, map, take}
-use Rattle.gtfs_rows.specs.Views.{agency_of}
-use Rattle.gtfs_merge.specs.Entries.{entry_value}
+use Rattle.gtfs_rows.specs.RowsInMemory.{agency_of}
+use Rattle.gtfs_merge.specs.MergeEntries.{entry_value}
 use Rattle.gtfs_merge.specs.EntryRows.{agency_from}
 use Rattle.gtfs_merge.proofs.rows.agencies.merged_agencies.Given as goal
 

@@ -1,5 +1,5 @@
 use Rattle.std.proofs.Common.{◌∙◌, ◌++◌, ◌∷◌, [], ap}
-use Rattle.gtfs_merge.specs.Entries.{entry_value}
+use Rattle.gtfs_merge.specs.MergeEntries.{entry_value}
 use Rattle.gtfs_merge.specs.TripRows.{frequencies_from}
 use Rattle.gtfs_merge.proofs.InTurn.{start-in_turn, turn-in_turn}
 use Rattle.gtfs_merge.proofs.Ordering.{own-row, row_at}

@@ -1,5 +1,5 @@
 use Rattle.std.proofs.Common.{map, take}
-use Rattle.gtfs_merge.specs.Entries.{entry_value}
+use Rattle.gtfs_merge.specs.MergeEntries.{entry_value}
 use Rattle.gtfs_merge.specs.TripRows.{StandInTurn, frequencies_from}
 use Rattle.gtfs_merge.proofs.rows.frequencies.merged_frequencies.Given as goal
 

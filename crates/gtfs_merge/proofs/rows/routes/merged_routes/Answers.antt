@@ -2,11 +2,11 @@ use Rattle.std.proofs.Common.{◌≡◌, ◌<◌, ◌≤◌, ◌∙◌, List, �
 use Rattle.std.specs.List.{list_all}
 use Rattle.std.proofs.lemmas.List.{length-map}
 use Rattle.gtfs_rows.specs.NamedRows.{names_agency, route_named}
-use Rattle.gtfs_rows.specs.Views.{agency_ids}
+use Rattle.gtfs_rows.specs.RowsInMemory.{agency_ids}
 use Rattle.gtfs_rows.specs.declared.parts.Parts.{Parts}
 use Rattle.gtfs_merge.specs.EntryRows.{AreMergedRows, route_from}
 use Rattle.gtfs_merge.specs.NewNumbers.{numbers_of}
-use Rattle.gtfs_merge.specs.Sides.{merged_ids, merged_parts, side_names, side_parts}
+use Rattle.gtfs_merge.specs.MergedSides.{merged_ids, merged_parts, side_names, side_parts}
 use Rattle.gtfs_merge.specs.declared.kind.Kind.TheVariants as kind
 use Rattle.gtfs_merge.proofs.MergedLists.{agency-inside, all-more, numbers-long, route-row, row-named, row-within, rows-all, rows-more, side-sound}
 use Rattle.gtfs_merge.proofs.Ordering.{own-row, row_at}

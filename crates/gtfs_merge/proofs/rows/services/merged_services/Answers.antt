@@ -1,9 +1,9 @@
 use Rattle.std.proofs.Common.{◌≡◌, ◌<◌, ◌≤◌, ◌∙◌, Some, ap, arith, length, map, option_map, slice_get, subst, sym}
 use Rattle.std.proofs.lemmas.List.{length-map}
-use Rattle.gtfs_rows.specs.Views.{service_of}
+use Rattle.gtfs_rows.specs.RowsInMemory.{service_of}
 use Rattle.gtfs_rows.specs.declared.parts.Parts.{Parts}
 use Rattle.gtfs_merge.specs.EntryRows.{AreMergedRows, service_from}
-use Rattle.gtfs_merge.specs.Sides.{merged_parts, side_parts}
+use Rattle.gtfs_merge.specs.MergedSides.{merged_parts, side_parts}
 use Rattle.gtfs_merge.specs.declared.kind.Kind.TheVariants as kind
 use Rattle.gtfs_merge.proofs.MergedLists.{service-row, row-named, row-within, rows-all, rows-more}
 use Rattle.gtfs_merge.proofs.Ordering.{own-row, row_at}

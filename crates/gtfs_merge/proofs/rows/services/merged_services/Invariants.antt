@@ -1,6 +1,6 @@
 use Rattle.std.proofs.Common.{◌≡◌, Some, map, take}
-use Rattle.gtfs_rows.specs.Views.{service_of}
-use Rattle.gtfs_merge.specs.Entries.{entry_value}
+use Rattle.gtfs_rows.specs.RowsInMemory.{service_of}
+use Rattle.gtfs_merge.specs.MergeEntries.{entry_value}
 use Rattle.gtfs_merge.specs.EntryRows.{service_from}
 use Rattle.gtfs_merge.proofs.rows.services.merged_services.Given as goal
 

@@ -1,5 +1,5 @@
 use Rattle.std.proofs.Common.{◌≡◌, map, take}
-use Rattle.gtfs_merge.specs.Entries.{entry_value}
+use Rattle.gtfs_merge.specs.MergeEntries.{entry_value}
 use Rattle.gtfs_merge.specs.TripRows.{entry_trip}
 use Rattle.gtfs_merge.proofs.rows.stop_times.trips_of.Given as goal
 

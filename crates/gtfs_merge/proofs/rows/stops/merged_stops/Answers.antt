@@ -3,11 +3,11 @@ use Rattle.std.specs.Prelude.{IfSome}
 use Rattle.std.specs.List.{list_all}
 use Rattle.std.proofs.lemmas.List.{length-map}
 use Rattle.gtfs_rows.specs.NamedRows.{names_parent, stop_named}
-use Rattle.gtfs_rows.specs.Views.{stop_ids}
+use Rattle.gtfs_rows.specs.RowsInMemory.{stop_ids}
 use Rattle.gtfs_rows.specs.declared.parts.Parts.{Parts}
 use Rattle.gtfs_merge.specs.EntryRows.{AreMergedRows, stop_from}
 use Rattle.gtfs_merge.specs.NewNumbers.{numbers_of}
-use Rattle.gtfs_merge.specs.Sides.{merged_ids, merged_parts, side_names, side_parts}
+use Rattle.gtfs_merge.specs.MergedSides.{merged_ids, merged_parts, side_names, side_parts}
 use Rattle.gtfs_merge.specs.declared.kind.Kind.TheVariants as kind
 use Rattle.gtfs_merge.proofs.MergedLists.{all-more, numbers-long, parent-inside, row-named, row-within, rows-all, rows-more, side-sound, stop-row}
 use Rattle.gtfs_merge.proofs.Ordering.{own-row, row_at}

@@ -1,9 +1,9 @@
 use Rattle.std.proofs.Common.{◌≡◌, Some, map, take, true}
 use Rattle.std.specs.List.{list_all}
 use Rattle.gtfs_rows.specs.NamedRows.{names_parent, stop_named}
-use Rattle.gtfs_merge.specs.Entries.{entry_value}
+use Rattle.gtfs_merge.specs.MergeEntries.{entry_value}
 use Rattle.gtfs_merge.specs.EntryRows.{stop_from}
-use Rattle.gtfs_merge.specs.Sides.{merged_ids}
+use Rattle.gtfs_merge.specs.MergedSides.{merged_ids}
 use Rattle.gtfs_merge.specs.declared.kind.Kind.TheVariants as kind
 use Rattle.gtfs_merge.proofs.rows.stops.merged_stops.Given as goal
 

@@ -2,12 +2,12 @@ use Rattle.std.proofs.Common.{◌≡◌, ◌<◌, ◌≤◌, ◌∙◌, List, �
 use Rattle.std.specs.List.{list_all}
 use Rattle.std.proofs.lemmas.List.{length-map}
 use Rattle.gtfs_rows.specs.NamedRows.{names_route_and_service, trip_named, without_rows}
-use Rattle.gtfs_rows.specs.Views.{route_ids, service_ids}
+use Rattle.gtfs_rows.specs.RowsInMemory.{route_ids, service_ids}
 use Rattle.gtfs_rows.specs.declared.parts.Parts.{Parts}
-use Rattle.gtfs_merge.specs.Entries.{entry_value}
+use Rattle.gtfs_merge.specs.MergeEntries.{entry_value}
 use Rattle.gtfs_merge.specs.EntryRows.{AreMergedRows, trip_from}
 use Rattle.gtfs_merge.specs.NewNumbers.{numbers_of}
-use Rattle.gtfs_merge.specs.Sides.{merged_ids, merged_parts, side_names, side_parts}
+use Rattle.gtfs_merge.specs.MergedSides.{merged_ids, merged_parts, side_names, side_parts}
 use Rattle.gtfs_merge.specs.declared.kind.Kind.TheVariants as kind
 use Rattle.gtfs_merge.proofs.MergedLists.{all-more, numbers-long, plain-rows, route-inside, row-named, row-within, rows-all, rows-more, service-inside, side-sound, trip-row}
 use Rattle.gtfs_merge.proofs.Ordering.{own-row, row_at}

@@ -1,9 +1,9 @@
 use Rattle.std.proofs.Common.{◌≡◌, Some, map, option_map, take, true}
 use Rattle.std.specs.List.{list_all}
 use Rattle.gtfs_rows.specs.NamedRows.{names_route_and_service, trip_named, without_rows}
-use Rattle.gtfs_merge.specs.Entries.{entry_value}
+use Rattle.gtfs_merge.specs.MergeEntries.{entry_value}
 use Rattle.gtfs_merge.specs.EntryRows.{trip_from}
-use Rattle.gtfs_merge.specs.Sides.{merged_ids}
+use Rattle.gtfs_merge.specs.MergedSides.{merged_ids}
 use Rattle.gtfs_merge.specs.declared.kind.Kind.TheVariants as kind
 use Rattle.gtfs_merge.proofs.rows.trips.merged_trips.Given as goal
 

@@ -1,5 +1,5 @@
 use Rattle.std.proofs.Common.{◌+◌, arith, refl, subst}
-use Rattle.gtfs_nearby.specs.Index.{IsBlock}
+use Rattle.gtfs_nearby.specs.AreaTree.{IsBlock}
 use Rattle.gtfs_nearby.proofs.Blocks.{block-joined, block-one, stops}
 use Rattle.gtfs_nearby.proofs.block.Block.of.Goals as goal
 

@@ -1,4 +1,4 @@
-use Rattle.gtfs_nearby.specs.Index.{IsBlock}
+use Rattle.gtfs_nearby.specs.AreaTree.{IsBlock}
 use Rattle.gtfs_nearby.proofs.Blocks.{stops}
 use Rattle.gtfs_nearby.proofs.block.Block.of.Given as goal
 

@@ -1,10 +1,10 @@
 use Rattle.std.proofs.Common.{◌≡◌, ◌*◌, ◌∙◌, None, ap, length, refl, rules, sym, subst}
 use Rattle.std.specs.Prelude.{is_some, option_map, position}
-use Rattle.gtfs_nearby.specs.Areas.{area_around}
-use Rattle.gtfs_nearby.specs.Index.{IsRun}
-use Rattle.gtfs_nearby.specs.Near.{is_near_row}
-use Rattle.gtfs_nearby.specs.Places.{IsPlaceIfAny}
-use Rattle.gtfs_nearby.specs.Search.{IsLeastOfRun}
+use Rattle.gtfs_nearby.specs.MapAreas.{area_around}
+use Rattle.gtfs_nearby.specs.AreaTree.{IsRun}
+use Rattle.gtfs_nearby.specs.NearRows.{is_near_row}
+use Rattle.gtfs_nearby.specs.PlacedStops.{IsPlacedStopIfAny}
+use Rattle.gtfs_nearby.specs.TreeSearch.{IsLeastOfRun}
 use Rattle.gtfs_nearby.proofs.Finding.{childless, nowhere, searched}
 use Rattle.gtfs_nearby.proofs.Places.{IsParent, parent-none, parent-there}
 use Rattle.gtfs_nearby.proofs.nearby.Nearby.find.Goals.{in-Some+in_ok-parent-in-Some, in-None}
@@ -25,7 +25,7 @@ returns-in_err-place c =
     let self = c.args.self.now in
     let row = c.args.row.now in
     ap (option_map (λ n. n.0)) none
-    ∙ sym (nowhere self.near self.stops row (option_map (λ n. n.0) c.args.parent) (subst (IsPlaceIfAny row (option_map (λ n. n.0) c.match-row.parent)) c.in_err-place.was c.of.ensures))
+    ∙ sym (nowhere self.near self.stops row (option_map (λ n. n.0) c.args.parent) (subst (IsPlacedStopIfAny row (option_map (λ n. n.0) c.match-row.parent)) c.in_err-place.was c.of.ensures))
 
 pub returns : goal.returns
 returns c =
@@ -40,7 +40,7 @@ returns c =
       | in-Some+in_ok-parent-in-Some w ↦ parent-there row _ _ c.args.parent c.match-row.parent w.in-Some.is w.in_ok-parent-in-Some.was w.parent-is
       | in-None w ↦ parent-none row c.args.parent c.match-row.parent w.in-None.is w.parent-is
     ] in
-    let place = subst (IsPlaceIfAny row parent) c.in_ok-place.was c.of.ensures in
+    let place = subst (IsPlacedStopIfAny row parent) c.in_ok-place.was c.of.ensures in
     let is_run = subst (λ l. IsRun l p run) c.deref.ensures.value c.of-run.ensures in
     let area = c.around-area.ensures ∙ ap (λ n. area_around p (n * 1000)) c.from.ensures in
     let within = subst (λ l. IsLeastOfRun c.around-area.result l run (length inside.stops.now) least) c.deref-2.ensures.value c.least_of_run-least.ensures in

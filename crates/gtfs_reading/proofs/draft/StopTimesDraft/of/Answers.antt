@@ -1,6 +1,6 @@
 use Rattle.std.proofs.Common.{◌≡◌, ◌∙◌, ◌-◌, ◌++◌, ap, arith, length, subst, sym, take}
 use Rattle.std.specs.Prelude.{replicate}
-use Rattle.gtfs_reading.specs.Gathering.{starts_of_all, IsEmptyFor}
+use Rattle.gtfs_reading.specs.GatheredStopTimes.{starts_of_all, IsEmptyFor}
 use Rattle.gtfs_reading.specs.StopTimeDraft.{lists_with, AreCut}
 use Rattle.gtfs_reading.specs.StopTimeLists.{AreStopTimesOf}
 use Rattle.gtfs_reading.proofs.ContentIds.{trips_counted}

@@ -4,7 +4,7 @@ use Rattle.gtfs_table.proofs.RowFacts.{all_taken, numbers_more, turn}
 use Rattle.gtfs_table.specs.Rows.{numbers, rows}
 use Rattle.gtfs_table.specs.declared.file.File.TheVariants as file
 use Rattle.gtfs_schema.specs.steps.Ids.{number_with}
-use Rattle.gtfs_reading.specs.ByTrip.{is_marked, named_trip, with_mark}
+use Rattle.gtfs_reading.specs.NamedTrips.{is_marked, named_trip, with_mark}
 use Rattle.gtfs_reading.proofs.Fields.{field_at}
 use Rattle.gtfs_reading.proofs.NamedTrips.{as-many, marked-more}
 use Rattle.gtfs_reading.proofs.frequencies.FrequencyFile.named_trips.Goals as goal

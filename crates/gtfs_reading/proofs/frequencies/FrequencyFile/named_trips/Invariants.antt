@@ -2,7 +2,7 @@ use Rattle.std.proofs.Common.{◌≡◌, length, true}
 use Rattle.std.specs.List.{All}
 use Rattle.gtfs_table.specs.Rows.{numbers}
 use Rattle.gtfs_schema.specs.steps.Ids.{ids_of}
-use Rattle.gtfs_reading.specs.ByTrip.{is_marked, named_trip}
+use Rattle.gtfs_reading.specs.NamedTrips.{is_marked, named_trip}
 use Rattle.gtfs_reading.proofs.frequencies.FrequencyFile.named_trips.Given as goal
 
 -- the trips of the rows so far

@@ -5,12 +5,12 @@ use Rattle.gtfs_table.proofs.RowFacts.{value_is}
 use Rattle.gtfs_table.specs.Rows.{is_row, records_in}
 use Rattle.gtfs_table.specs.declared.file.File.TheVariants as file
 use Rattle.gtfs_schema.specs.Columns.{id, required}
-use Rattle.gtfs_schema.specs.Rows.{text_in}
+use Rattle.gtfs_schema.specs.RowConditions.{text_in}
 use Rattle.gtfs_schema.specs.steps.Ids.{rows_by_number}
-use Rattle.gtfs_rows.specs.Order.{by_key}
-use Rattle.gtfs_rows.specs.Reading.{frequency_in, rows_of, trip_in}
+use Rattle.gtfs_rows.specs.TransferOrder.{by_key}
+use Rattle.gtfs_rows.specs.ContentRead.{frequency_in, rows_of, trip_in}
 use Rattle.gtfs_rows.specs.Rows.{Frequency}
-use Rattle.gtfs_rows.specs.Views.{frequency_of}
+use Rattle.gtfs_rows.specs.RowsInMemory.{frequency_of}
 use Rattle.gtfs_reading.proofs.ByIds.{as_many}
 use Rattle.gtfs_reading.proofs.Fields.{numbered_row}
 use Rattle.gtfs_reading.proofs.IdTexts.{text_at_is}

@@ -2,8 +2,8 @@ use Rattle.std.proofs.Common.{rules, ◌≡◌, ◌∙◌, [], ap, codes, map}
 use Rattle.std.proofs.lemmas.List.{map_push, take_all}
 use Rattle.std.proofs.lemmas.List.Sorted.{answers_always}
 use Rattle.gtfs_table.specs.declared.file.File.TheVariants as file
-use Rattle.gtfs_rows.specs.Reading.{frequency_in}
-use Rattle.gtfs_rows.specs.Views.{frequency_of}
+use Rattle.gtfs_rows.specs.ContentRead.{frequency_in}
+use Rattle.gtfs_rows.specs.RowsInMemory.{frequency_of}
 use Rattle.gtfs_reading.specs.CalendarRows.{rows_with}
 use Rattle.gtfs_reading.proofs.Fields.{read_next}
 use Rattle.gtfs_reading.proofs.FrequencyFacts.{frequencies_sorted}

@@ -1,12 +1,12 @@
 use Rattle.std.proofs.Common.{◌≡◌, ◌∙◌, ◌<◌, ◌≤◌, ◌++◌, ◌∷◌, [], ℕ, List, ap, arith, get_or, length, map, subst, sym}
 use Rattle.std.proofs.lemmas.List.{length-append, length-map}
 use Rattle.csv.specs.Records.{Rising}
-use Rattle.gtfs_table.specs.Parts.{parts}
+use Rattle.gtfs_table.specs.FieldOffsets.{parts}
 use Rattle.gtfs_table.proofs.PartFacts.{length-parts, parts-push}
 use Rattle.gtfs_schema.specs.steps.Ids.{rows_by_number}
 use Rattle.gtfs_rows.specs.declared.frequency.Frequency.{Frequency as FrequencyRow}
-use Rattle.gtfs_rows.specs.Reading.{trip_in}
-use Rattle.gtfs_rows.specs.Views.{frequency_of}
+use Rattle.gtfs_rows.specs.ContentRead.{trip_in}
+use Rattle.gtfs_rows.specs.RowsInMemory.{frequency_of}
 use Rattle.gtfs_reading.proofs.ByIds.{as_many}
 use Rattle.gtfs_rows.proofs.Cuts.{first_push, no_parts, rising_none, rising_push}
 use Rattle.gtfs_reading.proofs.Fields.{listed_all, listed_next}

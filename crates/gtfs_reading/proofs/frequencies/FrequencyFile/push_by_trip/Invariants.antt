@@ -1,9 +1,9 @@
 use Rattle.std.proofs.Common.{◌≡◌, get_or, length, map, take}
 use Rattle.csv.specs.Records.{Rising}
 use Rattle.gtfs_schema.specs.steps.Ids.{rows_by_number}
-use Rattle.gtfs_rows.specs.Reading.{trip_in}
-use Rattle.gtfs_rows.specs.Views.{frequency_of}
-use Rattle.gtfs_table.specs.Parts.{parts}
+use Rattle.gtfs_rows.specs.ContentRead.{trip_in}
+use Rattle.gtfs_rows.specs.RowsInMemory.{frequency_of}
+use Rattle.gtfs_table.specs.FieldOffsets.{parts}
 use Rattle.gtfs_reading.proofs.frequencies.FrequencyFile.push_by_trip.Given as goal
 
 -- the trips so far

@@ -6,12 +6,12 @@ use Rattle.gtfs_table.specs.Tables.{record_at}
 use Rattle.gtfs_table.specs.declared.file.File.TheVariants as file
 use Rattle.gtfs_table.proofs.RowFacts.{value_is}
 use Rattle.gtfs_schema.specs.Columns as kind
-use Rattle.gtfs_schema.specs.Reads.{word_of}
-use Rattle.gtfs_reading.specs.Gathering.{AreGathered}
+use Rattle.gtfs_schema.specs.ReadFields.{word_of}
+use Rattle.gtfs_reading.specs.GatheredStopTimes.{AreGathered}
 use Rattle.gtfs_rows.specs.Headsigns.{NamesHeadsign}
 use Rattle.gtfs_rules.specs.StopTimes.{SaysStopTime}
 use Rattle.gtfs_reading.specs.HeadsignIndex.{with_headsign}
-use Rattle.gtfs_stop_times.specs.Headsigned.{with_headsign_at}
+use Rattle.gtfs_stop_times.specs.HeadsignedRows.{with_headsign_at}
 use Rattle.gtfs_reading.proofs.Gathers.{count-rows, gathered-next, gathered-none, stop-time-left}
 use Rattle.gtfs_reading.proofs.TripRows.{trip_below}
 use Rattle.gtfs_reading.proofs.gathered.Gathered.push_all.Goals as goal

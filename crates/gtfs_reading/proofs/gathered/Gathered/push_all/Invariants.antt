@@ -1,5 +1,5 @@
 use Rattle.std.proofs.Common.{◌≡◌, drop, take}
-use Rattle.gtfs_reading.specs.Gathering.{AreGathered}
+use Rattle.gtfs_reading.specs.GatheredStopTimes.{AreGathered}
 use Rattle.gtfs_reading.proofs.gathered.Gathered.push_all.Given as goal
 
 -- the stop times so far were given their headsigns, and the others are left

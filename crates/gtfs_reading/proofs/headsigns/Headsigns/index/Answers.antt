@@ -1,7 +1,7 @@
 use Rattle.std.proofs.Common.{◌≡◌, ◌∙◌, ap, sym, subst, Some, false}
 use Rattle.std.proofs.Common.{rules}
 use Rattle.std.specs.List.{slice_get}
-use Rattle.gtfs_schema.specs.Values.{has_control}
+use Rattle.gtfs_schema.specs.FieldValues.{has_control}
 use Rattle.gtfs_schema.proofs.PlainTexts.{plain-itself, plain-plain}
 use Rattle.gtfs_rows.specs.Headsigns.{ArePlain}
 use Rattle.gtfs_reading.specs.HeadsignIndex.{with_headsign}

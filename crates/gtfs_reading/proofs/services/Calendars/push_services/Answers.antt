@@ -1,6 +1,6 @@
 use Rattle.std.proofs.Common.{◌∙◌, ◌<◌, ◌≤◌, [], ap, arith, length, map}
-use Rattle.gtfs_rows.specs.Reading.{service_row_in}
-use Rattle.gtfs_rows.specs.Views.{service_of}
+use Rattle.gtfs_rows.specs.ContentRead.{service_row_in}
+use Rattle.gtfs_rows.specs.RowsInMemory.{service_of}
 use Rattle.gtfs_reading.proofs.Fields.{listed_all, listed_next_of}
 use Rattle.gtfs_reading.proofs.services.Calendars.push_services.Goals as goal
 

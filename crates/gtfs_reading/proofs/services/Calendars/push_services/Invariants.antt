@@ -1,6 +1,6 @@
 use Rattle.std.proofs.Common.{◌≡◌, length, map, take}
-use Rattle.gtfs_rows.specs.Reading.{service_row_in}
-use Rattle.gtfs_rows.specs.Views.{service_of}
+use Rattle.gtfs_rows.specs.ContentRead.{service_row_in}
+use Rattle.gtfs_rows.specs.RowsInMemory.{service_of}
 use Rattle.gtfs_reading.proofs.services.Calendars.push_services.Given as goal
 
 -- the services so far

@@ -3,7 +3,7 @@ use Rattle.std.specs.Ordering.{int_cmp}
 use Rattle.gtfs_days.specs.Service.{NamesEachDayOnce}
 use Rattle.gtfs_table.specs.declared.file.File.TheVariants as file
 use Rattle.gtfs_schema.specs.Calendars.{exception_in, service_rows}
-use Rattle.gtfs_rows.specs.Order.{by_key}
+use Rattle.gtfs_rows.specs.TransferOrder.{by_key}
 use Rattle.gtfs_reading.specs.CalendarRows.{rows_with}
 use Rattle.gtfs_reading.proofs.CalendarFacts.{dates_named, days_once}
 use Rattle.gtfs_rows.proofs.Exceptions.{by_day}

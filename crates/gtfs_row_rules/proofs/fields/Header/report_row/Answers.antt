@@ -1,5 +1,5 @@
 use Rattle.std.proofs.Common.{[], length}
-use Rattle.gtfs_row_rules.specs.HeaderView.{is_found_in}
+use Rattle.gtfs_row_rules.specs.HeaderColumns.{is_found_in}
 use Rattle.gtfs_schema.specs.steps.FieldCodes.{is_found_at, is_in_row, length_code}
 use Rattle.gtfs_row_rules.proofs.LocatedFacts.{reported_more, reported_start}
 use Rattle.gtfs_row_rules.proofs.fields.Header.report_row.Goals as goal

@@ -1,7 +1,7 @@
 use Rattle.std.proofs.Common.{[], length}
-use Rattle.gtfs_row_rules.specs.HeaderView.{is_found_in}
+use Rattle.gtfs_row_rules.specs.HeaderColumns.{is_found_in}
 use Rattle.gtfs_schema.specs.steps.FieldCodes.{is_found_at, is_in_row, length_code}
-use Rattle.gtfs_schema.specs.steps.Found.{Adds}
+use Rattle.gtfs_schema.specs.steps.FoundProblems.{Adds}
 use Rattle.gtfs_row_rules.proofs.LocatedFacts.{reported_so_far}
 use Rattle.gtfs_row_rules.proofs.fields.Header.report_row.Given as goal
 

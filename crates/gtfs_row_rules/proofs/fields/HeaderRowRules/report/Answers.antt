@@ -3,8 +3,8 @@ use Rattle.std.specs.Prelude.{◌&&◌}
 use Rattle.std.proofs.lemmas.Result.{on_ok_weaker}
 use Rattle.gtfs_table.specs.Tables.{Dataset}
 use Rattle.gtfs_schema.specs.steps.FieldCodes.{field_codes, in_file_of, is_in_row}
-use Rattle.gtfs_schema.specs.steps.Found.{Adds}
-use Rattle.gtfs_row_rules.specs.HeaderView.{IsHeader, row_reports}
+use Rattle.gtfs_schema.specs.steps.FoundProblems.{Adds}
+use Rattle.gtfs_row_rules.specs.HeaderColumns.{IsHeader, row_reports}
 use Rattle.gtfs_row_rules.specs.RowRules.{IsNext, ReportsOfRow}
 use Rattle.gtfs_row_rules.proofs.HeaderRowFacts.{header_reported}
 use Rattle.gtfs_row_rules.proofs.fields.HeaderRowRules.report.Goals as goal

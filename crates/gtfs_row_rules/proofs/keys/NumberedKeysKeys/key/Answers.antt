@@ -3,8 +3,8 @@ use Rattle.std.specs.Prelude.{option_map}
 use Rattle.gtfs_table.specs.Rows.{records_in}
 use Rattle.gtfs_table.specs.Tables.{field_under, record_at}
 use Rattle.gtfs_schema.specs.Columns.{id}
-use Rattle.gtfs_schema.specs.Reads.{amount_of, word_of}
-use Rattle.gtfs_row_rules.specs.KeyView.{kind_of_number}
+use Rattle.gtfs_schema.specs.ReadFields.{amount_of, word_of}
+use Rattle.gtfs_row_rules.specs.RowKeys.{kind_of_number}
 use Rattle.gtfs_row_rules.proofs.KeyParts.{numbered_read}
 use Rattle.gtfs_row_rules.proofs.keys.NumberedKeysKeys.key.Goals as goal
 

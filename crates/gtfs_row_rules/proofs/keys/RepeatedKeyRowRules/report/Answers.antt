@@ -3,7 +3,7 @@ use Rattle.std.specs.BTreeSet.{contains}
 use Rattle.std.proofs.lemmas.Result.{on_ok_weaker}
 use Rattle.gtfs_schema.specs.declared.code.Code.TheVariants as code
 use Rattle.gtfs_schema.proofs.RuleFacts.{row_reported}
-use Rattle.gtfs_row_rules.specs.KeyView.{repeats_key}
+use Rattle.gtfs_row_rules.specs.RowKeys.{repeats_key}
 use Rattle.gtfs_row_rules.proofs.KeyFacts.{has_more, repeated_among, seen_here}
 use Rattle.gtfs_row_rules.proofs.keys.RepeatedKeyRowRules.report.Goals as goal
 

@@ -3,8 +3,8 @@ use Rattle.std.specs.Prelude.{◌&&◌}
 use Rattle.std.proofs.lemmas.Result.{on_ok_weaker}
 use Rattle.gtfs_table.specs.Rows.{records_in}
 use Rattle.gtfs_table.specs.Tables.{Dataset, record_at}
-use Rattle.gtfs_schema.specs.steps.Found.{Adds, is_same}
-use Rattle.gtfs_schema.specs.steps.Picks.{at_column}
+use Rattle.gtfs_schema.specs.steps.FoundProblems.{Adds, is_same}
+use Rattle.gtfs_schema.specs.steps.KeptColumns.{at_column}
 use Rattle.gtfs_schema.proofs.RuleFacts.{row_reported}
 use Rattle.gtfs_schema.proofs.SiteFacts.{problem_at}
 use Rattle.gtfs_row_rules.specs.RowRules.{HoldsWhere, IsNext, ReportsOfRow}

@@ -1,6 +1,6 @@
 use Rattle.gtfs_row_rules.specs.StopKinds.{is_other_parent}
 use Rattle.gtfs_schema.specs.steps.StopTypes.{type_of}
-use Rattle.gtfs_schema.specs.Values.{if_there}
+use Rattle.gtfs_schema.specs.FieldValues.{if_there}
 use Rattle.gtfs_row_rules.proofs.stop_kinds.HasOtherParentRule.breaks.Goals as goal
 
 pub returns-in-Some-clause-same : goal.returns-in-Some-clause-same

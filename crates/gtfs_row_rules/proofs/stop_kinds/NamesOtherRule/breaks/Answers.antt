@@ -1,5 +1,5 @@
 use Rattle.std.specs.Prelude.{not}
-use Rattle.gtfs_schema.specs.Values.{if_there, is_one_of}
+use Rattle.gtfs_schema.specs.FieldValues.{if_there, is_one_of}
 use Rattle.gtfs_row_rules.proofs.stop_kinds.NamesOtherRule.breaks.Goals as goal
 
 pub returns-in-Some-clause-same : goal.returns-in-Some-clause-same

@@ -1,5 +1,5 @@
 use Rattle.std.proofs.Common.{◌∙◌}
-use Rattle.gtfs_runs.specs.Order.{IsOfTrips, is_above_moment, is_above_seek}
+use Rattle.gtfs_runs.specs.EventOrder.{IsOfTrips, is_above_moment, is_above_seek}
 use Rattle.gtfs_runs.proofs.SeekOrder.{found-alike}
 use Rattle.gtfs_runs.proofs.lane.Lane.first_after.Goals as goal
 

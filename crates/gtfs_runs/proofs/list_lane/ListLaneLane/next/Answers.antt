@@ -2,7 +2,7 @@ use Rattle.std.proofs.Common.{rules, of_calls, ◌≡◌, ◌∙◌, List, Bool,
 use Rattle.std.specs.List.Sorted.{IsPartitionPoint}
 use Rattle.std.proofs.lemmas.List.Sorted.{IsPartitionPoint-from_clause}
 use Rattle.gtfs_runs.specs.declared.event.Event.{Event}
-use Rattle.gtfs_runs.specs.Order.{event_cmp, is_later}
+use Rattle.gtfs_runs.specs.EventOrder.{event_cmp, is_later}
 use Rattle.gtfs_runs.proofs.Finding.{find-parted, parted-upward}
 use Rattle.gtfs_runs.proofs.Orders.{later-upward}
 use Rattle.gtfs_runs.proofs.list_lane.ListLaneLane.next.Goals as goal

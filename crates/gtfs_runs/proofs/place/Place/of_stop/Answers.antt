@@ -3,7 +3,7 @@ use Rattle.std.proofs.lemmas.Simd.{map-map}
 use Rattle.std.proofs.lemmas.List.{take_all}
 use Rattle.gtfs_field.proofs.ListFacts.{some_of}
 use Rattle.gtfs_rows.specs.declared.stop.Stop.{Stop}
-use Rattle.gtfs_rows.specs.Views.{content_of_parts, stop_ids, stop_of, text_of_number}
+use Rattle.gtfs_rows.specs.RowsInMemory.{content_of_parts, stop_ids, stop_of, text_of_number}
 use Rattle.gtfs_rows.specs.Places.{is_in_place}
 use Rattle.gtfs_runs.proofs.PlaceFacts.{id_at, one_more}
 use Rattle.gtfs_runs.proofs.place.Place.of_stop.Goals as goal

@@ -3,7 +3,7 @@ use Rattle.std.specs.Prelude.{option_map}
 use Rattle.std.specs.Ordering.{int_cmp, nat_cmp, ordering_then}
 use Rattle.std.proofs.lemmas.Int.{to_z-of_z}
 use Rattle.std.proofs.lemmas.List.{length-map}
-use Rattle.gtfs_rows.specs.Views.{trip_ids}
+use Rattle.gtfs_rows.specs.RowsInMemory.{trip_ids}
 use Rattle.gtfs_runs.proofs.SeekOrder.{known-trip, unknown-trip}
 use Rattle.gtfs_runs.proofs.TripIds.{trip_ids_ascend}
 use Rattle.gtfs_runs.proofs.seek.Seek.moment.Goals as goal

@@ -1,6 +1,6 @@
 use Rattle.std.proofs.Common.{◌≤◌, ◌<◌, ◌+◌, ◌*◌, ◌-◌, arith}
 use Rattle.std.proofs.lemmas.Grind.{div_ceil_times}
-use Rattle.gtfs_rows.specs.Views.{frequency_of}
+use Rattle.gtfs_rows.specs.RowsInMemory.{frequency_of}
 use Rattle.gtfs_runs.proofs.Counting.{period-tally}
 use Rattle.gtfs_runs.proofs.Runs.{runs-ascend}
 use Rattle.gtfs_runs.proofs.step_lane.StepLane.of_period.Goals as goal

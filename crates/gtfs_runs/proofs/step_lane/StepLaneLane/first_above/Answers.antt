@@ -1,6 +1,6 @@
 use Rattle.std.proofs.Common.{rules, ◌≡◌, ◌∙◌, sym, subst, Bool, FitsSigned, to_z, of_z, to_z-of_z, w64}
 use Rattle.gtfs_runs.specs.declared.event.Event.{Event}
-use Rattle.gtfs_runs.specs.Order.{is_above_moment, IsFrom}
+use Rattle.gtfs_runs.specs.EventOrder.{is_above_moment, IsFrom}
 use Rattle.gtfs_runs.proofs.Orders.{above-from}
 use Rattle.gtfs_runs.proofs.Runs.{first-passes, second-passes, none-passes}
 use Rattle.gtfs_runs.proofs.step_lane.StepLaneLane.first_above.Goals as goal

@@ -2,7 +2,7 @@ use Rattle.std.proofs.Common.{◌≡◌, ◌∙◌, sym, subst, Bool, to_z, of_z
 use Rattle.std.specs.Prelude.{pos}
 use Rattle.std.proofs.lemmas.Int.{ints}
 use Rattle.gtfs_runs.specs.declared.event.Event.{Event}
-use Rattle.gtfs_runs.specs.Order.{is_later, IsFrom}
+use Rattle.gtfs_runs.specs.EventOrder.{is_later, IsFrom}
 use Rattle.gtfs_runs.proofs.Orders.{later-from}
 use Rattle.gtfs_runs.proofs.Runs.{first-passes, second-passes, none-passes}
 use Rattle.gtfs_runs.proofs.step_lane.StepLaneLane.next.Goals as goal

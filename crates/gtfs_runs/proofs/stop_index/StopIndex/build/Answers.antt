@@ -2,8 +2,8 @@ use Rattle.std.proofs.Common.{length, sym, subst}
 use Rattle.std.specs.List.Sorted.{IsSorted}
 use Rattle.csv.specs.Records.{Rising}
 use Rattle.gtfs_rows.specs.declared.parts.Parts.{Parts}
-use Rattle.gtfs_runs.specs.steps.Groups.{AreOfTrips, grouped_cmp}
-use Rattle.gtfs_runs.specs.steps.Ranked.{AreIndexedTrips, IsOfRank}
+use Rattle.gtfs_runs.specs.steps.TripGroups.{AreOfTrips, grouped_cmp}
+use Rattle.gtfs_runs.specs.steps.IndexedTrips.{AreIndexedTrips, IsOfRank}
 use Rattle.std.specs.List.{All}
 use Rattle.gtfs_runs.proofs.GroupFacts.{all_ranked, trips_moved}
 use Rattle.gtfs_runs.proofs.Numbers.{by_groups}

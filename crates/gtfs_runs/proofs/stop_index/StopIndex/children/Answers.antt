@@ -1,5 +1,5 @@
 use Rattle.std.proofs.Common.{◌≡◌, ◌∙◌, ◌==◌, length, cond, ap, arith}
-use Rattle.gtfs_runs.specs.Counts.{tally}
+use Rattle.gtfs_runs.specs.Tallies.{tally}
 use Rattle.gtfs_runs.specs.StopIndex.{StopIndexValue}
 use Rattle.gtfs_runs.specs.steps.Children.{is_child}
 use Rattle.gtfs_runs.proofs.ChildFacts.{own_children}

@@ -1,7 +1,7 @@
 use Rattle.std.proofs.Common.{sym, subst}
 use Rattle.std.specs.List.{All}
 use Rattle.gtfs_runs.specs.StopIndex.{StopIndexValue}
-use Rattle.gtfs_runs.specs.steps.Ranked.{IsRanked}
+use Rattle.gtfs_runs.specs.steps.IndexedTrips.{IsRanked}
 use Rattle.gtfs_runs.proofs.stop_index.StopIndex.trips.Goals as goal
 
 pub returns : goal.returns

@@ -3,8 +3,8 @@ use Rattle.std.proofs.lemmas.List.{length-map, length-set}
 use Rattle.gtfs_field.proofs.ListFacts.{some_of}
 use Rattle.gtfs_stop_times.specs.declared.stop_row.StopRow.{StopRow}
 use Rattle.gtfs_runs.specs.steps.AtStops.{at_stop}
-use Rattle.gtfs_runs.specs.declared.stop_index.DepartureRow.{DepartureRow}
-use Rattle.gtfs_runs.specs.steps.Noted.{IsNoted}
+use Rattle.gtfs_runs.specs.declared.departure_row.DepartureRow.{DepartureRow}
+use Rattle.gtfs_runs.specs.steps.NotedRows.{IsNoted}
 use Rattle.gtfs_runs.proofs.AtStopFacts.{noted_here, one_more, pushed_at, row_added, row_last, row_later, row_passed}
 use Rattle.gtfs_runs.proofs.stop_index.at_stops.add_row.Goals as goal
 

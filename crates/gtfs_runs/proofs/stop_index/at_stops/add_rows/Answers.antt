@@ -1,7 +1,7 @@
 use Rattle.std.proofs.Common.{◌≡◌, ◌≤◌, ◌<◌, ◌+◌, ◌==◌, ◌∙◌, length, cond, map, refl, ap, subst, arith}
 use Rattle.std.specs.List.{All, slice_get}
-use Rattle.gtfs_schema.specs.Values.{if_there}
-use Rattle.gtfs_runs.specs.Counts.{tally}
+use Rattle.gtfs_schema.specs.FieldValues.{if_there}
+use Rattle.gtfs_runs.specs.Tallies.{tally}
 use Rattle.gtfs_runs.specs.StopIndex.{is_this_row}
 use Rattle.gtfs_runs.specs.steps.AtStops.{StandBefore, at_stop, leaves_stop}
 use Rattle.gtfs_runs.proofs.AtStopFacts.{asked_within}

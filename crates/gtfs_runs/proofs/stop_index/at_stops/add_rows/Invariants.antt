@@ -1,14 +1,14 @@
 use Rattle.std.proofs.Common.{◌≡◌, ◌+◌, ◌==◌, ◌&&◌, ℕ, Bool, true, List, Some, cond, length, map, nat_lt}
 use Rattle.std.specs.List.{All, slice_get}
-use Rattle.gtfs_schema.specs.Values.{if_there}
+use Rattle.gtfs_schema.specs.FieldValues.{if_there}
 use Rattle.gtfs_rows.specs.Trips.{stop_rows_by_trip}
 use Rattle.gtfs_rows.specs.declared.frequency.Frequency.{Frequency}
 use Rattle.gtfs_rows.specs.declared.parts.Parts.{Parts}
 use Rattle.gtfs_rows.specs.declared.trip.Trip.{Trip}
-use Rattle.gtfs_runs.specs.Counts.{tally}
+use Rattle.gtfs_runs.specs.Tallies.{tally}
 use Rattle.gtfs_runs.specs.StopIndex.{is_this_row}
 use Rattle.gtfs_runs.specs.steps.AtStops.{StandBefore, at_stop, leaves_stop}
-use Rattle.gtfs_runs.specs.steps.Noted.{IsNoted}
+use Rattle.gtfs_runs.specs.steps.NotedRows.{IsNoted}
 use Rattle.gtfs_runs.proofs.stop_index.at_stops.add_rows.Given as goal
 
 -- those of the stop times so far

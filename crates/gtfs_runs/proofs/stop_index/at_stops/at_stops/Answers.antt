@@ -3,15 +3,15 @@ use Rattle.std.specs.List.{All}
 use Rattle.std.proofs.lemmas.List.{length-map}
 use Rattle.std.proofs.lemmas.Option.{slice_get-get_or}
 use Rattle.gtfs_field.proofs.NumberFacts.{number_itself as itself}
-use Rattle.gtfs_schema.specs.Values.{if_there}
-use Rattle.gtfs_rows.specs.Order.{Ascends}
+use Rattle.gtfs_schema.specs.FieldValues.{if_there}
+use Rattle.gtfs_rows.specs.TransferOrder.{Ascends}
 use Rattle.gtfs_times.specs.TimedRows.{timed_parts}
-use Rattle.gtfs_runs.specs.Counts.{tally}
+use Rattle.gtfs_runs.specs.Tallies.{tally}
 use Rattle.gtfs_runs.specs.StopIndex.{departure_row_cmp, is_this_row}
-use Rattle.gtfs_runs.specs.steps.Groups.{GroupedTripValue}
+use Rattle.gtfs_runs.specs.steps.TripGroups.{GroupedTripValue}
 use Rattle.gtfs_runs.specs.steps.AtStops.{StandBefore, at_stop, departs_of}
-use Rattle.gtfs_runs.specs.steps.Noted.{IsNoted}
-use Rattle.gtfs_runs.specs.steps.Ranked.{IsOfRank, has_rank}
+use Rattle.gtfs_runs.specs.steps.NotedRows.{IsNoted}
+use Rattle.gtfs_runs.specs.steps.IndexedTrips.{IsOfRank, has_rank}
 use Rattle.gtfs_runs.proofs.AtStopFacts.{done, done_more, known_trip, none_done, none_yet, nothing_ascends, nothing_at, rows_all, rows_more, stand_before, trip_within}
 use Rattle.gtfs_runs.proofs.stop_index.at_stops.at_stops.Goals as goal
 

@@ -1,12 +1,12 @@
 use Rattle.std.proofs.Common.{◌≡◌, ℕ, cond, length, map}
 use Rattle.std.specs.List.{All}
-use Rattle.gtfs_rows.specs.Order.{Ascends}
+use Rattle.gtfs_rows.specs.TransferOrder.{Ascends}
 use Rattle.gtfs_times.specs.TimedRows.{timed_parts}
-use Rattle.gtfs_runs.specs.Counts.{tally}
+use Rattle.gtfs_runs.specs.Tallies.{tally}
 use Rattle.gtfs_runs.specs.StopIndex.{departure_row_cmp, is_this_row}
 use Rattle.gtfs_runs.specs.steps.AtStops.{at_stop, departs_of}
-use Rattle.gtfs_runs.specs.steps.Noted.{IsNoted}
-use Rattle.gtfs_runs.specs.steps.Ranked.{IsOfRank}
+use Rattle.gtfs_runs.specs.steps.NotedRows.{IsNoted}
+use Rattle.gtfs_runs.specs.steps.IndexedTrips.{IsOfRank}
 use Rattle.gtfs_runs.proofs.AtStopFacts.{done}
 use Rattle.gtfs_runs.proofs.stop_index.at_stops.at_stops.Given as goal
 

@@ -1,5 +1,5 @@
 use Rattle.std.proofs.Common.{◌≤◌, ◌<◌, ◌∙◌, length, cond, ap, arith}
-use Rattle.gtfs_runs.specs.Counts.{tally}
+use Rattle.gtfs_runs.specs.Tallies.{tally}
 use Rattle.gtfs_runs.specs.steps.Children.{is_child, is_pair}
 use Rattle.gtfs_runs.proofs.ChildFacts.{child_within}
 use Rattle.gtfs_runs.proofs.Tallies.{all_trips, more_trips, no_trips}

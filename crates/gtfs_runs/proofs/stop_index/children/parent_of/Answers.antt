@@ -1,7 +1,7 @@
 use Rattle.std.proofs.Common.{◌≡◌, ◌∙◌, ◌==◌, ◌&&◌, not, ap, sym, inl, inr}
 use Rattle.std.specs.Prelude.{option_map}
-use Rattle.gtfs_schema.specs.Values.{if_there}
-use Rattle.gtfs_rows.specs.Choices.{location_code}
+use Rattle.gtfs_schema.specs.FieldValues.{if_there}
+use Rattle.gtfs_rows.specs.RowChoices.{location_code}
 use Rattle.gtfs_runs.proofs.ChildFacts.{child_of, no_child, orphan, own_child}
 use Rattle.gtfs_runs.proofs.stop_index.children.parent_of.Goals as goal
 

@@ -2,7 +2,7 @@ use Rattle.std.proofs.Common.{◌≡◌, ◌<◌, ◌∙◌, ℕ, get_or, false,
 use Rattle.std.specs.declared.cmp.Ordering.TheVariants.{Less}
 use Rattle.std.specs.Ordering.{is_lt}
 use Rattle.std.proofs.lemmas.Result.{IfOk-weaker}
-use Rattle.gtfs_runs.specs.steps.Groups.{GroupedTripValue, below, group_cmp, group_of}
+use Rattle.gtfs_runs.specs.steps.TripGroups.{GroupedTripValue, below, group_cmp, group_of}
 use Rattle.gtfs_runs.proofs.GroupFacts.{first_of_group, higher_than, order_read, same_as_before}
 use Rattle.gtfs_runs.proofs.stop_index.indexed_trips.group_at.Goals.{else-rank-gt0-via-then-rank-gt0+else-not-is_lt, else-rank-gt0-via-else-rank-gt0}
 use Rattle.gtfs_runs.proofs.stop_index.indexed_trips.group_at.Goals as goal

@@ -1,4 +1,4 @@
-use Rattle.gtfs_runs.specs.steps.Groups.{AreOfTrips}
+use Rattle.gtfs_runs.specs.steps.TripGroups.{AreOfTrips}
 use Rattle.gtfs_runs.proofs.stop_index.indexed_trips.grouped_trips.Given as goal
 
 -- the trips so far

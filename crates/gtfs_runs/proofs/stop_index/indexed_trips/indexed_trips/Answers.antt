@@ -2,7 +2,7 @@ use Rattle.std.proofs.Common.{◌≡◌, ◌<◌, ◌+◌, ◌-◌, ◌∙◌, [
 use Rattle.std.proofs.lemmas.List.{get_or_default, length-append}
 use Rattle.std.specs.List.{slice_get}
 use Rattle.gtfs_rows.specs.Trips.{frequencies_by_trip}
-use Rattle.gtfs_runs.specs.steps.Groups.{below, group_of}
+use Rattle.gtfs_runs.specs.steps.TripGroups.{below, group_of}
 use Rattle.gtfs_runs.proofs.GroupFacts.{numbered, one_indexed_more, trips_known}
 use Rattle.gtfs_runs.proofs.stop_index.indexed_trips.indexed_trips.Goals as goal
 

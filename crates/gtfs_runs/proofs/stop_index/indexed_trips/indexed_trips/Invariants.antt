@@ -1,7 +1,7 @@
 use Rattle.std.proofs.Common.{◌≡◌, ◌<◌, ◌-◌, ℕ, get_or, length}
 use Rattle.gtfs_runs.specs.declared.stop_index.indexed_trips.IndexedTrip.{IndexedTrip}
-use Rattle.gtfs_runs.specs.steps.Groups.{GroupedTripValue, below, group_of}
-use Rattle.gtfs_runs.specs.steps.Ranked.{IsIndexedTrip}
+use Rattle.gtfs_runs.specs.steps.TripGroups.{GroupedTripValue, below, group_of}
+use Rattle.gtfs_runs.specs.steps.IndexedTrips.{IsIndexedTrip}
 use Rattle.gtfs_runs.proofs.stop_index.indexed_trips.indexed_trips.Given as goal
 
 -- the trips so far, of which the last has this group

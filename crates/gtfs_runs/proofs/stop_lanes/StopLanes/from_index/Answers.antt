@@ -1,13 +1,13 @@
 use Rattle.std.proofs.Common.{◌≡◌, map, sym, subst}
 use Rattle.std.specs.Prelude.{IfOk}
-use Rattle.gtfs_rows.specs.Views.{content_of_parts, service_ids, stop_ids, text_of_number}
+use Rattle.gtfs_rows.specs.RowsInMemory.{content_of_parts, service_ids, stop_ids, text_of_number}
 use Rattle.gtfs_rows.specs.declared.parts.Parts.{Parts}
 use Rattle.gtfs_times.specs.Filling.{timed}
 use Rattle.gtfs_times.specs.declared.times.Times.{Times}
-use Rattle.gtfs_runs.specs.Kinds.{AreByKind}
+use Rattle.gtfs_runs.specs.LaneKinds.{AreByKind}
 use Rattle.gtfs_runs.specs.Lanes.{latest}
 use Rattle.gtfs_runs.specs.StopLanes.{AreLanesOf, lanes_of, list_value, period_value}
-use Rattle.gtfs_runs.specs.steps.Whole.{AreWhole}
+use Rattle.gtfs_runs.specs.steps.WholeLanes.{AreWhole}
 use Rattle.gtfs_runs.proofs.Pushes.{none-made}
 use Rattle.gtfs_runs.proofs.stop_lanes.StopLanes.from_index.Goals as goal
 

@@ -1,13 +1,13 @@
 use Rattle.std.proofs.Common.{◌++◌, ◌∙◌, map, sym, ap, subst}
 use Rattle.std.specs.List.{flat_map}
-use Rattle.gtfs_rows.specs.Views.{content_of_parts, service_ids, stop_ids, text_of_number}
+use Rattle.gtfs_rows.specs.RowsInMemory.{content_of_parts, service_ids, stop_ids, text_of_number}
 use Rattle.gtfs_times.proofs.FilledContent.{sound-timed}
 use Rattle.gtfs_times.proofs.TimedContent.{content-timed}
 use Rattle.gtfs_times.specs.Filling.{timed}
 use Rattle.gtfs_times.specs.TimedRows.{timed_parts}
 use Rattle.gtfs_runs.specs.Lanes.{latest}
 use Rattle.gtfs_runs.specs.StopLanes.{AreLanesOf, filled_value, list_value, period_value}
-use Rattle.gtfs_runs.specs.steps.Lists.{latest_of}
+use Rattle.gtfs_runs.specs.steps.LatestOfLists.{latest_of}
 use Rattle.gtfs_runs.proofs.LanesMoved.{lanes-moved, lists-apart}
 use Rattle.gtfs_runs.proofs.LatestEvents.{latest_is}
 use Rattle.gtfs_runs.proofs.Pushes.{none-made}

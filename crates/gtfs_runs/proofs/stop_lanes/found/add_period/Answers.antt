@@ -2,12 +2,12 @@ use Rattle.std.proofs.Common.{◌≡◌, ◌<◌, ◌++◌, ◌∙◌, cond, [],
 use Rattle.std.specs.List.{All}
 use Rattle.std.proofs.lemmas.List.{length-append, map-append}
 use Rattle.std.proofs.lemmas.List.Elements.{All-push}
-use Rattle.gtfs_rows.specs.Views.{frequency_of}
-use Rattle.gtfs_runs.specs.Kinds.{IsPeriodLane}
-use Rattle.gtfs_runs.specs.Periods.{is_of_period}
+use Rattle.gtfs_rows.specs.RowsInMemory.{frequency_of}
+use Rattle.gtfs_runs.specs.LaneKinds.{IsPeriodLane}
+use Rattle.gtfs_runs.specs.PeriodRuns.{is_of_period}
 use Rattle.gtfs_runs.specs.StopLanes.{period_value}
 use Rattle.gtfs_runs.specs.declared.event.Event.{Event}
-use Rattle.gtfs_runs.specs.steps.Finds.{times_told}
+use Rattle.gtfs_runs.specs.steps.FoundEvents.{times_told}
 use Rattle.gtfs_runs.specs.steps.Passings.{passing_event}
 use Rattle.gtfs_runs.proofs.LaneTallies.{period_more}
 use Rattle.gtfs_runs.proofs.Pushes.{none-done}

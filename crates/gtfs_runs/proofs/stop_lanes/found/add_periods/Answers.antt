@@ -4,10 +4,10 @@ use Rattle.std.specs.List.{slice_get}
 use Rattle.std.proofs.lemmas.List.{get_or_default}
 use Rattle.std.proofs.lemmas.Option.{slice_get-get_or, slice_get-map}
 use Rattle.gtfs_field.proofs.ListFacts.{some_of}
-use Rattle.gtfs_rows.specs.Views.{frequency_of}
+use Rattle.gtfs_rows.specs.RowsInMemory.{frequency_of}
 use Rattle.gtfs_rows.specs.declared.frequency.Frequency.{Frequency}
 use Rattle.gtfs_runs.specs.StopLanes.{period_value}
-use Rattle.gtfs_runs.specs.steps.Finds.{times_passed, times_told}
+use Rattle.gtfs_runs.specs.steps.FoundEvents.{times_passed, times_told}
 use Rattle.gtfs_runs.proofs.LaneTallies.{periods_more}
 use Rattle.gtfs_runs.proofs.Pushes.{none-done}
 use Rattle.gtfs_runs.proofs.stop_lanes.found.add_periods.Goals as goal

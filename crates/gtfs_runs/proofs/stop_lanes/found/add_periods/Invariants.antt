@@ -3,11 +3,11 @@ use Rattle.std.specs.Prelude.{◌==◌}
 use Rattle.std.specs.List.{All, slice_get}
 use Rattle.gtfs_rows.specs.Content.{Content}
 use Rattle.gtfs_rows.specs.Rows.{Trip}
-use Rattle.gtfs_rows.specs.Views.{frequency_of}
-use Rattle.gtfs_runs.specs.Kinds.{IsPeriodLane}
+use Rattle.gtfs_rows.specs.RowsInMemory.{frequency_of}
+use Rattle.gtfs_runs.specs.LaneKinds.{IsPeriodLane}
 use Rattle.gtfs_runs.specs.StopLanes.{period_value}
 use Rattle.gtfs_runs.specs.declared.event.Event.{Event}
-use Rattle.gtfs_runs.specs.steps.Finds.{times_passed_in, times_told}
+use Rattle.gtfs_runs.specs.steps.FoundEvents.{times_passed_in, times_told}
 use Rattle.gtfs_runs.proofs.stop_lanes.found.add_periods.Given as goal
 
 -- the lanes of the periods so far

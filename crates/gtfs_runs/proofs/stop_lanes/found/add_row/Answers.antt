@@ -5,10 +5,10 @@ use Rattle.std.proofs.lemmas.Option.{slice_get-get_or}
 use Rattle.gtfs_rows.specs.Trips.{frequencies_by_trip, stop_rows_by_trip}
 use Rattle.gtfs_table.proofs.PartFacts.{length-parts}
 use Rattle.gtfs_runs.specs.StopLanes.{period_value}
-use Rattle.gtfs_runs.specs.steps.Finds.{times_passed_in, times_told}
-use Rattle.gtfs_runs.specs.steps.Noted.{noted_passing}
+use Rattle.gtfs_runs.specs.steps.FoundEvents.{times_passed_in, times_told}
+use Rattle.gtfs_runs.specs.steps.NotedRows.{noted_passing}
 use Rattle.gtfs_runs.specs.steps.Passings.{passing_event}
-use Rattle.gtfs_runs.specs.steps.RowFinds.{row_passing, row_periods}
+use Rattle.gtfs_runs.specs.steps.FoundAtRow.{row_passing, row_periods}
 use Rattle.gtfs_runs.proofs.RowSteps.{event_added, periods_added}
 use Rattle.gtfs_runs.proofs.TripTimes.{periods_run, rows_at, starts_within}
 use Rattle.gtfs_runs.proofs.stop_lanes.found.add_row.Goals as goal

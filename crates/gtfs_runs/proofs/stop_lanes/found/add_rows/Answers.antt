@@ -1,7 +1,7 @@
 use Rattle.std.proofs.Common.{◌≡◌, ◌≤◌, ◌+◌, ◌++◌, [], ◌∷◌, get_or, length, map, take, sym, subst, arith}
 use Rattle.std.proofs.lemmas.List.{take_all, take_more}
 use Rattle.gtfs_runs.specs.StopLanes.{period_value}
-use Rattle.gtfs_runs.specs.steps.RowFinds.{AreAdded}
+use Rattle.gtfs_runs.specs.steps.FoundAtRow.{AreAdded}
 use Rattle.gtfs_runs.proofs.RowSteps.{more_added, no_row, none_added}
 use Rattle.gtfs_runs.proofs.stop_lanes.found.add_rows.Goals as goal
 

@@ -1,6 +1,6 @@
 use Rattle.std.proofs.Common.{map, take}
 use Rattle.gtfs_runs.specs.StopLanes.{period_value}
-use Rattle.gtfs_runs.specs.steps.RowFinds.{AreAdded}
+use Rattle.gtfs_runs.specs.steps.FoundAtRow.{AreAdded}
 use Rattle.gtfs_runs.proofs.stop_lanes.found.add_rows.Given as goal
 
 -- what the rows so far add

@@ -5,8 +5,8 @@ use Rattle.std.proofs.lemmas.Option.{get_or_from_slice_get}
 use Rattle.gtfs_runs.specs.StopLanes.{period_value}
 use Rattle.gtfs_runs.specs.declared.stop_index.children.Child.{Child}
 use Rattle.gtfs_runs.specs.steps.AtStops.{at_stop}
-use Rattle.gtfs_runs.specs.steps.Ranked.{IsRanked, group_number}
-use Rattle.gtfs_runs.specs.steps.RowFinds.{AreAdded, IsInside}
+use Rattle.gtfs_runs.specs.steps.IndexedTrips.{IsRanked, group_number}
+use Rattle.gtfs_runs.specs.steps.FoundAtRow.{AreAdded, IsInside}
 use Rattle.gtfs_runs.proofs.IndexRows.{child_rows, children_rows, more_children}
 use Rattle.gtfs_runs.proofs.RowSteps.{more_added, none_added}
 use Rattle.gtfs_runs.proofs.stop_lanes.indexed.add_children.Goals as goal

@@ -1,8 +1,8 @@
 use Rattle.std.proofs.Common.{◌≡◌, ◌<◌, ◌≤◌, ◌+◌, ◌∙◌, ◌++◌, [], ◌∷◌, get_or, length, map, take, sym, ap, subst, arith}
 use Rattle.std.proofs.lemmas.List.{take_all, take_more}
 use Rattle.gtfs_runs.specs.StopLanes.{period_value}
-use Rattle.gtfs_runs.specs.steps.RowFinds.{AreAdded}
-use Rattle.gtfs_runs.specs.steps.Ranked.{group_number}
+use Rattle.gtfs_runs.specs.steps.FoundAtRow.{AreAdded}
+use Rattle.gtfs_runs.specs.steps.IndexedTrips.{group_number}
 use Rattle.gtfs_runs.proofs.GroupFacts.{no_trip}
 use Rattle.gtfs_runs.proofs.RowSteps.{more_added, no_row, none_added}
 use Rattle.gtfs_runs.proofs.stop_lanes.indexed.add_rows.Goals as goal

@@ -1,8 +1,8 @@
 use Rattle.std.proofs.Common.{◌≡◌, map, take}
 use Rattle.std.specs.List.{All}
 use Rattle.gtfs_runs.specs.StopLanes.{period_value}
-use Rattle.gtfs_runs.specs.steps.Ranked.{group_number}
-use Rattle.gtfs_runs.specs.steps.RowFinds.{AreAdded}
+use Rattle.gtfs_runs.specs.steps.IndexedTrips.{group_number}
+use Rattle.gtfs_runs.specs.steps.FoundAtRow.{AreAdded}
 use Rattle.gtfs_runs.proofs.stop_lanes.indexed.add_rows.Given as goal
 
 -- what the rows so far add

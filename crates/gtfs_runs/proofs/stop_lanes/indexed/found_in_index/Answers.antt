@@ -1,16 +1,16 @@
 use Rattle.std.proofs.Common.{◌≡◌, ◌<◌, ◌++◌, [], List, length, map, sym, ap, subst, arith}
 use Rattle.std.specs.List.{All}
 use Rattle.std.proofs.lemmas.Option.{get_or_from_slice_get}
-use Rattle.gtfs_rows.specs.Views.{IsSoundParts}
+use Rattle.gtfs_rows.specs.RowsInMemory.{IsSoundParts}
 use Rattle.gtfs_rows.specs.declared.parts.Parts.{Parts}
 use Rattle.gtfs_times.specs.TimedRows.{timed_parts}
 use Rattle.gtfs_runs.specs.StopLanes.{LaneValue, period_value}
-use Rattle.gtfs_runs.specs.declared.stop_index.DepartureRow.{DepartureRow}
+use Rattle.gtfs_runs.specs.declared.departure_row.DepartureRow.{DepartureRow}
 use Rattle.gtfs_runs.specs.declared.stop_lanes.listed.ListedEvent.{ListedEvent}
 use Rattle.gtfs_runs.specs.steps.AtStops.{at_stop}
 use Rattle.gtfs_runs.specs.steps.Courses.{AreServed}
-use Rattle.gtfs_runs.specs.steps.Ranked.{IsRanked, group_number}
-use Rattle.gtfs_runs.specs.steps.RowFinds.{AreAdded, IsInside}
+use Rattle.gtfs_runs.specs.steps.IndexedTrips.{IsRanked, group_number}
+use Rattle.gtfs_runs.specs.steps.FoundAtRow.{AreAdded, IsInside}
 use Rattle.gtfs_runs.proofs.ChildFacts.{children_within}
 use Rattle.gtfs_runs.proofs.GroupFacts.{nothing_numbered, numbers_of, trips_listed}
 use Rattle.gtfs_runs.proofs.IndexRows.{children_rows, first_all, inside_rows, last_all, noted_rows, of_all, of_place}

@@ -4,13 +4,13 @@ use Rattle.std.specs.List.Sorted.{IsPermutation}
 use Rattle.std.proofs.lemmas.List.{length-map}
 use Rattle.std.proofs.lemmas.List.Elements.{All-map}
 use Rattle.std.proofs.lemmas.List.Sorted.{All-permutation, IsPermutation-map}
-use Rattle.gtfs_rows.specs.Order.{Ascends}
+use Rattle.gtfs_rows.specs.TransferOrder.{Ascends}
 use Rattle.gtfs_times.specs.TimedRows.{timed_parts}
-use Rattle.gtfs_runs.specs.Order.{event_cmp}
+use Rattle.gtfs_runs.specs.EventOrder.{event_cmp}
 use Rattle.gtfs_runs.specs.StopLanes.{list_value, period_value}
 use Rattle.gtfs_runs.specs.steps.Courses.{AreServed, IsCourse, IsListed, how_many, is_same_course, stopping_events, stopping_of}
-use Rattle.gtfs_runs.specs.steps.Groups.{trip_group}
-use Rattle.gtfs_runs.specs.steps.Numbers.{AreNumbered, IsNumbered, listed_cmp}
+use Rattle.gtfs_runs.specs.steps.TripGroups.{trip_group}
+use Rattle.gtfs_runs.specs.steps.CourseNumbers.{AreNumbered, IsNumbered, listed_cmp}
 use Rattle.gtfs_runs.proofs.Chunks.{all_mapped}
 use Rattle.gtfs_runs.proofs.Numbers.{events_ascend, pairs_permuted}
 use Rattle.gtfs_runs.proofs.WholeLanes.{are_whole, strictly}

@@ -1,7 +1,7 @@
 use Rattle.std.proofs.Common.{length, map, sym, subst}
 use Rattle.gtfs_times.specs.TimedRows.{timed_parts}
 use Rattle.gtfs_runs.specs.StopLanes.{period_value}
-use Rattle.gtfs_runs.specs.steps.Finds.{AreFound}
+use Rattle.gtfs_runs.specs.steps.FoundEvents.{AreFound}
 use Rattle.gtfs_runs.proofs.GroupFacts.{trips_listed}
 use Rattle.gtfs_runs.proofs.stop_lanes.lanes.lanes_of_feed.Goals as goal
 

@@ -1,15 +1,15 @@
 use Rattle.std.proofs.Common.{length, map, sym, subst}
 use Rattle.std.specs.Prelude.{IfOk}
-use Rattle.gtfs_rows.specs.Views.{content_of_parts, service_ids, stop_ids, text_of_number}
+use Rattle.gtfs_rows.specs.RowsInMemory.{content_of_parts, service_ids, stop_ids, text_of_number}
 use Rattle.gtfs_rows.specs.declared.parts.Parts.{Parts}
 use Rattle.gtfs_times.specs.Filling.{timed}
 use Rattle.gtfs_times.specs.TimedRows.{timed_parts}
 use Rattle.gtfs_times.specs.declared.times.Times.{Times}
 use Rattle.gtfs_runs.specs.StopLanes.{list_value, period_value}
 use Rattle.gtfs_runs.specs.steps.Courses.{AreServed, stopping_of}
-use Rattle.gtfs_runs.specs.steps.Finds.{AreFound}
-use Rattle.gtfs_runs.specs.steps.Numbers.{AreNumbered}
-use Rattle.gtfs_runs.specs.steps.Whole.{AreWhole}
+use Rattle.gtfs_runs.specs.steps.FoundEvents.{AreFound}
+use Rattle.gtfs_runs.specs.steps.CourseNumbers.{AreNumbered}
+use Rattle.gtfs_runs.specs.steps.WholeLanes.{AreWhole}
 use Rattle.gtfs_runs.proofs.stop_lanes.lanes.lanes_of_index.Goals as goal
 
 pub lanes_of_events-requires-clause-found : goal.lanes_of_events-requires-clause-found

@@ -3,7 +3,7 @@ use Rattle.std.specs.Prelude.{max}
 use Rattle.std.specs.List.{flat_map}
 use Rattle.std.proofs.lemmas.Grind.{flat_map-append}
 use Rattle.gtfs_runs.specs.StopLanes.{list_value, period_value}
-use Rattle.gtfs_runs.specs.steps.Lists.{latest_of}
+use Rattle.gtfs_runs.specs.steps.LatestOfLists.{latest_of}
 use Rattle.gtfs_runs.proofs.Latest.{latest-append}
 use Rattle.gtfs_runs.proofs.stop_lanes.latest.latest.Goals as goal
 

@@ -1,6 +1,6 @@
 use Rattle.std.proofs.Common.{◌∙◌, ap}
 use Rattle.gtfs_runs.specs.StopLanes.{list_value}
-use Rattle.gtfs_runs.specs.steps.Lists.{latest_of}
+use Rattle.gtfs_runs.specs.steps.LatestOfLists.{latest_of}
 use Rattle.gtfs_runs.proofs.Latest.{latest_more}
 use Rattle.gtfs_runs.proofs.stop_lanes.latest.latest_of_lists.Goals as goal
 

@@ -1,7 +1,7 @@
 use Rattle.std.proofs.Common.{◌≡◌, map, take}
 use Rattle.std.specs.List.{flat_map}
 use Rattle.gtfs_runs.specs.StopLanes.{list_value}
-use Rattle.gtfs_runs.specs.steps.Lists.{latest_of}
+use Rattle.gtfs_runs.specs.steps.LatestOfLists.{latest_of}
 use Rattle.gtfs_runs.proofs.stop_lanes.latest.latest_of_lists.Given as goal
 
 -- the latest of the lanes so far

@@ -1,6 +1,6 @@
 use Rattle.std.proofs.lemmas.List.Sorted.{IsPermutation-trans}
 use Rattle.gtfs_runs.specs.steps.Courses.{stopping_cmp, stopping_of}
-use Rattle.gtfs_runs.specs.steps.Numbers.{IsNumbered}
+use Rattle.gtfs_runs.specs.steps.CourseNumbers.{IsNumbered}
 use Rattle.gtfs_runs.proofs.CourseOrder.{sorted-mapped}
 use Rattle.gtfs_runs.proofs.Numbers.{in_order, pairs_permuted}
 use Rattle.gtfs_runs.proofs.stop_lanes.listed.sorted.Goals as goal

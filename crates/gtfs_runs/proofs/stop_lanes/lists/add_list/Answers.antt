@@ -2,10 +2,10 @@ use Rattle.std.proofs.Common.{◌≡◌, ◌<◌, ◌∙◌, ℕ, List, [], ◌�
 use Rattle.std.specs.List.{All}
 use Rattle.std.proofs.lemmas.List.{get_or_default, length-append, length-drop, length-map, map-append, take-map}
 use Rattle.std.proofs.lemmas.List.Elements.{All-push}
-use Rattle.gtfs_rows.specs.Views.{content_of_parts}
-use Rattle.gtfs_runs.specs.Kinds.{IsListLane}
-use Rattle.gtfs_rows.specs.Order.{Ascends}
-use Rattle.gtfs_runs.specs.Order.{event_cmp}
+use Rattle.gtfs_rows.specs.RowsInMemory.{content_of_parts}
+use Rattle.gtfs_runs.specs.LaneKinds.{IsListLane}
+use Rattle.gtfs_rows.specs.TransferOrder.{Ascends}
+use Rattle.gtfs_runs.specs.EventOrder.{event_cmp}
 use Rattle.gtfs_runs.specs.StopLanes.{list_value}
 use Rattle.gtfs_runs.specs.declared.event.Event.{Event}
 use Rattle.gtfs_runs.specs.declared.stop_lanes.listed.ListedEvent.{ListedEvent}

@@ -2,7 +2,7 @@ use Rattle.std.proofs.Common.{◌≡◌, ◌≤◌, ◌<◌, ◌-◌, ℕ, true,
 use Rattle.gtfs_rows.specs.declared.parts.Parts.{Parts}
 use Rattle.gtfs_runs.specs.declared.stop_lanes.listed.ListedEvent.{ListedEvent}
 use Rattle.gtfs_runs.specs.steps.Courses.{stopping_of}
-use Rattle.gtfs_runs.specs.steps.Numbers.{AreNumbered, is_alike}
+use Rattle.gtfs_runs.specs.steps.CourseNumbers.{AreNumbered, is_alike}
 use Rattle.gtfs_runs.proofs.stop_lanes.lists.course_len.Given as goal
 
 -- those so far have one course

@@ -3,10 +3,10 @@ use Rattle.std.specs.List.{All}
 use Rattle.std.specs.declared.cmp.Ordering.TheVariants.{Less}
 use Rattle.std.proofs.lemmas.List.{drop-map, take_rest}
 use Rattle.std.proofs.lemmas.List.Elements.{All-drop}
-use Rattle.gtfs_rows.specs.Order.{Ascends}
+use Rattle.gtfs_rows.specs.TransferOrder.{Ascends}
 use Rattle.gtfs_runs.specs.StopLanes.{events_of_service, list_value}
 use Rattle.gtfs_runs.specs.steps.Courses.{AreServed, IsListed, event_of, how_many, is_same_course, stopping_events, stopping_of}
-use Rattle.gtfs_runs.specs.steps.Numbers.{AreNumbered, listed_cmp}
+use Rattle.gtfs_runs.specs.steps.CourseNumbers.{AreNumbered, listed_cmp}
 use Rattle.gtfs_runs.proofs.Chunks.{left_more, pairs-drop, upto_more}
 use Rattle.gtfs_runs.proofs.Numbers.{numbers_left, served_left}
 use Rattle.gtfs_runs.proofs.Pushes.{none-made}

@@ -1,11 +1,11 @@
 use Rattle.std.proofs.Common.{◌≡◌, ◌≤◌, ◌<◌, ◌+◌, ◌-◌, ◌++◌, ℕ, drop, length, map}
 use Rattle.std.specs.List.{All}
-use Rattle.gtfs_rows.specs.Views.{content_of_parts}
+use Rattle.gtfs_rows.specs.RowsInMemory.{content_of_parts}
 use Rattle.gtfs_rows.specs.declared.parts.Parts.{Parts}
-use Rattle.gtfs_runs.specs.Kinds.{IsListLane}
+use Rattle.gtfs_runs.specs.LaneKinds.{IsListLane}
 use Rattle.gtfs_runs.specs.StopLanes.{events_of_service, list_value}
 use Rattle.gtfs_runs.specs.steps.Courses.{AreServed, IsListed, how_many, is_same_course, stopping_events, stopping_of}
-use Rattle.gtfs_runs.specs.steps.Numbers.{AreNumbered}
+use Rattle.gtfs_runs.specs.steps.CourseNumbers.{AreNumbered}
 use Rattle.gtfs_runs.proofs.stop_lanes.lists.lists.Given as goal
 
 -- the lanes so far, with what is left, tell the events and courses of all

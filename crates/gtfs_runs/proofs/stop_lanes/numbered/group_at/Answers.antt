@@ -5,7 +5,7 @@ use Rattle.std.proofs.lemmas.List.Sorted.{IsPartitionPoint-from_clause}
 use Rattle.std.proofs.lemmas.Option.{get_or_from_slice_get}
 use Rattle.std.proofs.lemmas.Result.{IfOk-weaker}
 use Rattle.gtfs_rows.specs.Trips.{stop_rows_by_trip}
-use Rattle.gtfs_runs.specs.steps.Groups.{GroupedTripValue, below, group_cmp, group_of, trip_group}
+use Rattle.gtfs_runs.specs.steps.TripGroups.{GroupedTripValue, below, group_cmp, group_of, trip_group}
 use Rattle.gtfs_stop_times.specs.StopLists.{stops_in}
 use Rattle.gtfs_runs.proofs.Chunks.{no_event}
 use Rattle.gtfs_runs.proofs.Numbers.{groups_total}

@@ -1,7 +1,7 @@
 use Rattle.std.proofs.Common.{◌∙◌, ◌∷◌, [], get_or, length, map, ap, arith}
 use Rattle.std.proofs.lemmas.List.{get_or_default, length-map, map-append}
 use Rattle.gtfs_rows.specs.declared.numbers.TripNo.{TripNo}
-use Rattle.gtfs_runs.specs.steps.Groups.{group_of, trip_group}
+use Rattle.gtfs_runs.specs.steps.TripGroups.{group_of, trip_group}
 use Rattle.gtfs_runs.proofs.Numbers.{named}
 use Rattle.gtfs_runs.proofs.Pushes.{mapped-all, pushed-more}
 use Rattle.gtfs_runs.proofs.stop_lanes.numbered.grouped_trips.Goals as goal

@@ -1,5 +1,5 @@
 use Rattle.std.proofs.Common.{◌≡◌, map, take}
-use Rattle.gtfs_runs.specs.steps.Groups.{group_of, trip_group}
+use Rattle.gtfs_runs.specs.steps.TripGroups.{group_of, trip_group}
 use Rattle.gtfs_runs.proofs.stop_lanes.numbered.grouped_trips.Given as goal
 
 -- the trips so far

@@ -1,8 +1,8 @@
 use Rattle.std.proofs.Common.{◌≡◌, ◌≤◌, ◌∙◌, ◌==◌, get_or, map, sym, ap, subst}
 use Rattle.std.specs.List.{All}
 use Rattle.std.specs.List.Sorted.{IsSorted}
-use Rattle.gtfs_runs.specs.Counts.{tally}
-use Rattle.gtfs_runs.specs.steps.Groups.{below, grouped_cmp, sharing, trip_group}
+use Rattle.gtfs_runs.specs.Tallies.{tally}
+use Rattle.gtfs_runs.specs.steps.TripGroups.{below, grouped_cmp, sharing, trip_group}
 use Rattle.gtfs_runs.proofs.Numbers.{are_numbered, both_made, by_groups, shared, shared_by}
 use Rattle.gtfs_runs.proofs.stop_lanes.numbered.numbered.Goals as goal
 

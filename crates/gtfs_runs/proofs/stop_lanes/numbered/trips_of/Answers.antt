@@ -4,7 +4,7 @@ use Rattle.std.proofs.lemmas.List.{get_or_default, map-append}
 use Rattle.std.proofs.lemmas.List.Elements.{All-push}
 use Rattle.std.proofs.lemmas.Option.{get_or_from_slice_get}
 use Rattle.gtfs_rows.specs.Trips.{stop_rows_by_trip}
-use Rattle.gtfs_runs.specs.steps.Groups.{trip_group}
+use Rattle.gtfs_runs.specs.steps.TripGroups.{trip_group}
 use Rattle.gtfs_stop_times.specs.StopLists.{stops_in}
 use Rattle.gtfs_runs.specs.declared.stop_lanes.listed.ListedEvent.{ListedEvent}
 use Rattle.gtfs_runs.proofs.Chunks.{no_event}

@@ -1,8 +1,8 @@
 use Rattle.std.proofs.Common.{◌≡◌, ◌≤◌, ◌<◌, ◌==◌, ℕ, get_or, length, map}
 use Rattle.std.specs.List.{All}
-use Rattle.gtfs_runs.specs.Counts.{tally}
+use Rattle.gtfs_runs.specs.Tallies.{tally}
 use Rattle.gtfs_runs.specs.declared.stop_lanes.listed.ListedEvent.{ListedEvent}
-use Rattle.gtfs_runs.specs.steps.Groups.{trip_group}
+use Rattle.gtfs_runs.specs.steps.TripGroups.{trip_group}
 use Rattle.gtfs_runs.proofs.stop_lanes.numbered.trips_of.Given as goal
 
 -- the trips of the events so far

@@ -4,7 +4,7 @@ use Rattle.std.proofs.lemmas.List.{length-map}
 use Rattle.std.proofs.lemmas.List.Elements.{All-map}
 use Rattle.gtfs_runs.specs.declared.stop_lanes.listed.ListedEvent.{ListedEvent}
 use Rattle.gtfs_runs.specs.steps.Courses.{stopping_of}
-use Rattle.gtfs_runs.specs.steps.Groups.{below, trip_group}
+use Rattle.gtfs_runs.specs.steps.TripGroups.{below, trip_group}
 use Rattle.gtfs_runs.proofs.Chunks.{all_mapped}
 use Rattle.gtfs_runs.proofs.Numbers.{kept_by, number_more, served_kept}
 use Rattle.gtfs_runs.proofs.stop_lanes.numbered.with_groups.Goals as goal

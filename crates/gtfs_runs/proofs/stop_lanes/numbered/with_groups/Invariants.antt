@@ -2,7 +2,7 @@ use Rattle.std.proofs.Common.{◌≡◌, ◌<◌, ℕ, get_or, map}
 use Rattle.gtfs_rows.specs.declared.parts.Parts.{Parts}
 use Rattle.gtfs_runs.specs.declared.stop_lanes.listed.ListedEvent.{ListedEvent}
 use Rattle.gtfs_runs.specs.steps.Courses.{AreServed, stopping_of}
-use Rattle.gtfs_runs.specs.steps.Groups.{below, trip_group}
+use Rattle.gtfs_runs.specs.steps.TripGroups.{below, trip_group}
 use Rattle.gtfs_runs.proofs.stop_lanes.numbered.with_groups.Given as goal
 
 -- those so far have their numbers

@@ -1,17 +1,17 @@
 use Rattle.std.proofs.Common.{◌≡◌, ◌<◌, ◌+◌, ◌==◌, ◌&&◌, ℕ, List, Some, cond, length, nat_lt}
 use Rattle.std.specs.List.{All, slice_get}
-use Rattle.gtfs_schema.specs.Values.{if_there}
+use Rattle.gtfs_schema.specs.FieldValues.{if_there}
 use Rattle.gtfs_rows.specs.Places.{members}
 use Rattle.gtfs_rows.specs.Trips.{stop_rows_by_trip}
-use Rattle.gtfs_rows.specs.Views.{content_of_parts, stop_ids, text_of_number}
+use Rattle.gtfs_rows.specs.RowsInMemory.{content_of_parts, stop_ids, text_of_number}
 use Rattle.gtfs_rows.specs.declared.frequency.Frequency.{Frequency}
 use Rattle.gtfs_rows.specs.declared.parts.Parts.{Parts}
 use Rattle.gtfs_rows.specs.declared.trip.Trip.{Trip}
-use Rattle.gtfs_runs.specs.Counts.{tally}
+use Rattle.gtfs_runs.specs.Tallies.{tally}
 use Rattle.gtfs_runs.specs.StopIndex.{is_this_row}
-use Rattle.gtfs_runs.specs.steps.Noted.{IsNoted}
+use Rattle.gtfs_runs.specs.steps.NotedRows.{IsNoted}
 use Rattle.gtfs_runs.specs.steps.Passings.{leaves}
-use Rattle.gtfs_runs.specs.steps.RowFinds.{IsInside}
+use Rattle.gtfs_runs.specs.steps.FoundAtRow.{IsInside}
 use Rattle.gtfs_runs.proofs.stop_lanes.place_rows.add_stop_times.Given as goal
 
 -- those of the stop times so far

@@ -4,13 +4,13 @@ use Rattle.std.proofs.lemmas.Bool.{eqb-true}
 use Rattle.std.proofs.lemmas.List.{get_or-map, length-map}
 use Rattle.gtfs_table.proofs.PartFacts.{length-parts}
 use Rattle.gtfs_rows.specs.Trips.{stop_rows_by_trip}
-use Rattle.gtfs_stop_times.specs.ByTrip.{is_at}
+use Rattle.gtfs_stop_times.specs.StopTimesByTrip.{is_at}
 use Rattle.gtfs_times.specs.TimedRows.{timed_parts}
-use Rattle.gtfs_runs.specs.Counts.{tally}
+use Rattle.gtfs_runs.specs.Tallies.{tally}
 use Rattle.gtfs_runs.specs.StopIndex.{is_this_row}
-use Rattle.gtfs_runs.specs.steps.Noted.{IsNoted}
-use Rattle.gtfs_runs.specs.steps.Places.{departs_in_place}
-use Rattle.gtfs_runs.specs.steps.RowFinds.{IsInside}
+use Rattle.gtfs_runs.specs.steps.NotedRows.{IsNoted}
+use Rattle.gtfs_runs.specs.steps.PlaceRows.{departs_in_place}
+use Rattle.gtfs_runs.specs.steps.FoundAtRow.{IsInside}
 use Rattle.gtfs_runs.proofs.PlaceRows.{place_within}
 use Rattle.gtfs_runs.proofs.Tallies.{all_trips, more_trips, no_trips}
 use Rattle.gtfs_runs.proofs.TripTimes.{rows_at}

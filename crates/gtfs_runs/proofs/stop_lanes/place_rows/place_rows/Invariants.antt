@@ -1,13 +1,13 @@
 use Rattle.std.proofs.Common.{◌≡◌, ◌&&◌, ℕ, cond, nat_lt}
 use Rattle.std.specs.List.{All}
 use Rattle.gtfs_rows.specs.Places.{members}
-use Rattle.gtfs_rows.specs.Views.{content_of_parts, stop_ids, text_of_number}
+use Rattle.gtfs_rows.specs.RowsInMemory.{content_of_parts, stop_ids, text_of_number}
 use Rattle.gtfs_times.specs.TimedRows.{timed_parts}
-use Rattle.gtfs_runs.specs.Counts.{tally}
+use Rattle.gtfs_runs.specs.Tallies.{tally}
 use Rattle.gtfs_runs.specs.StopIndex.{is_this_row}
-use Rattle.gtfs_runs.specs.steps.Noted.{IsNoted}
-use Rattle.gtfs_runs.specs.steps.Places.{departs_in_place}
-use Rattle.gtfs_runs.specs.steps.RowFinds.{IsInside}
+use Rattle.gtfs_runs.specs.steps.NotedRows.{IsNoted}
+use Rattle.gtfs_runs.specs.steps.PlaceRows.{departs_in_place}
+use Rattle.gtfs_runs.specs.steps.FoundAtRow.{IsInside}
 use Rattle.gtfs_runs.proofs.stop_lanes.place_rows.place_rows.Given as goal
 
 -- those of the trips so far

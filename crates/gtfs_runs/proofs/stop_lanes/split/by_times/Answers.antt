@@ -1,10 +1,10 @@
 use Rattle.std.proofs.Common.{◌≡◌, ◌∷◌, [], false, map, sym, subst}
 use Rattle.std.proofs.lemmas.List.{map-append}
 use Rattle.std.proofs.lemmas.List.Elements.{All-nil}
-use Rattle.gtfs_rows.specs.Views.{content_of_parts}
-use Rattle.gtfs_runs.specs.Kinds.{has_untimed}
+use Rattle.gtfs_rows.specs.RowsInMemory.{content_of_parts}
+use Rattle.gtfs_runs.specs.LaneKinds.{has_untimed}
 use Rattle.gtfs_runs.specs.StopLanes.{filled_value, list_value}
-use Rattle.gtfs_runs.specs.steps.Apart.{AreApart}
+use Rattle.gtfs_runs.specs.steps.FilledApart.{AreApart}
 use Rattle.gtfs_runs.proofs.LanesMoved.{all_given}
 use Rattle.gtfs_runs.proofs.stop_lanes.split.by_times.Goals as goal
 

@@ -1,7 +1,7 @@
 use Rattle.std.proofs.Common.{map}
-use Rattle.gtfs_rows.specs.Views.{content_of_parts}
+use Rattle.gtfs_rows.specs.RowsInMemory.{content_of_parts}
 use Rattle.gtfs_runs.specs.StopLanes.{filled_value, list_value}
-use Rattle.gtfs_runs.specs.steps.Apart.{AreApart}
+use Rattle.gtfs_runs.specs.steps.FilledApart.{AreApart}
 use Rattle.gtfs_runs.proofs.stop_lanes.split.by_times.Given as goal
 
 -- the lists so far stand apart

@@ -1,10 +1,10 @@
 use Rattle.std.proofs.Common.{◌≡◌, ◌∙◌, ◌++◌, ◌∷◌, [], List, true, false, map, sym, ap, subst}
 use Rattle.std.specs.List.{list_any}
 use Rattle.std.proofs.lemmas.List.{map-append}
-use Rattle.gtfs_rows.specs.Views.{content_of_parts}
-use Rattle.gtfs_runs.specs.Kinds.{has_untimed, is_untimed_at}
+use Rattle.gtfs_rows.specs.RowsInMemory.{content_of_parts}
+use Rattle.gtfs_runs.specs.LaneKinds.{has_untimed, is_untimed_at}
 use Rattle.gtfs_runs.specs.StopLanes.{LaneValue, filled_value, list_value}
-use Rattle.gtfs_runs.specs.steps.Apart.{AreApart}
+use Rattle.gtfs_runs.specs.steps.FilledApart.{AreApart}
 use Rattle.gtfs_runs.proofs.LanesMoved.{filled_more, given_more}
 use Rattle.gtfs_runs.proofs.stop_lanes.split.push_list.Goals as goal
 

@@ -1,7 +1,7 @@
 use Rattle.std.proofs.Common.{List, map, sym, ap, subst}
-use Rattle.gtfs_rows.specs.Views.{content_of_parts}
+use Rattle.gtfs_rows.specs.RowsInMemory.{content_of_parts}
 use Rattle.gtfs_runs.specs.StopLanes.{LaneValue, filled_value, list_value}
-use Rattle.gtfs_runs.specs.steps.Apart.{AreApart}
+use Rattle.gtfs_runs.specs.steps.FilledApart.{AreApart}
 use Rattle.gtfs_times.specs.TimedRows.{is_interpolated}
 use Rattle.gtfs_runs.proofs.LanesMoved.{all_given}
 use Rattle.gtfs_runs.proofs.stop_lanes.split.split.Goals as goal

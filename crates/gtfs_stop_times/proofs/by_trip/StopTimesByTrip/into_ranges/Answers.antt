@@ -1,7 +1,7 @@
 use Rattle.std.proofs.Common.{◌≡◌, ◌∙◌, ◌++◌, ap, map}
 use Rattle.std.proofs.lemmas.Result.{IfOk-weaker}
-use Rattle.gtfs_table.specs.Parts.{parts}
-use Rattle.gtfs_stop_times.specs.ByTrip.{rows_in}
+use Rattle.gtfs_table.specs.FieldOffsets.{parts}
+use Rattle.gtfs_stop_times.specs.StopTimesByTrip.{rows_in}
 use Rattle.gtfs_stop_times.proofs.Places.{lists-are}
 use Rattle.gtfs_stop_times.proofs.by_trip.StopTimesByTrip.into_ranges.Goals as goal
 

@@ -2,8 +2,8 @@ use Rattle.std.proofs.Common.{◌≡◌, ◌∙◌, ap, length, subst, sym}
 use Rattle.std.specs.List.{All}
 use Rattle.std.proofs.lemmas.List.{length-map}
 use Rattle.gtfs_table.proofs.PartFacts.{length-parts}
-use Rattle.gtfs_stop_times.specs.ByTrip.{rows_in}
-use Rattle.gtfs_stop_times.specs.Joined.{IsTripOf}
+use Rattle.gtfs_stop_times.specs.StopTimesByTrip.{rows_in}
+use Rattle.gtfs_stop_times.specs.JoinedStopTimes.{IsTripOf}
 use Rattle.gtfs_stop_times.proofs.by_trip.StopTimesByTrip.joined.Goals as goal
 
 pub ranges_of-requires-clause-trips : goal.ranges_of-requires-clause-trips

@@ -1,5 +1,5 @@
 use Rattle.std.proofs.Common.{◌∙◌, ap, length, subst, sym}
-use Rattle.gtfs_stop_times.specs.ByTrip.{AreSoundPlaces, at_places}
+use Rattle.gtfs_stop_times.specs.StopTimesByTrip.{AreSoundPlaces, at_places}
 use Rattle.gtfs_stop_times.proofs.by_trip.StopTimesByTrip.len.Goals as goal
 
 pub returns-in-Anywhere : goal.returns-in-Anywhere

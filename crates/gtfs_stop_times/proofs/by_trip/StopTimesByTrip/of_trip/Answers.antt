@@ -1,5 +1,5 @@
 use Rattle.std.proofs.Common.{◌∙◌, ◌++◌, Some, arith, ap, subst, sym}
-use Rattle.gtfs_stop_times.specs.ByTrip.{AreSoundPlaces, rows_in}
+use Rattle.gtfs_stop_times.specs.StopTimesByTrip.{AreSoundPlaces, rows_in}
 use Rattle.gtfs_stop_times.proofs.Places.{in-ranges, rows-at}
 use Rattle.gtfs_stop_times.proofs.by_trip.StopTimesByTrip.of_trip.Goals as goal
 

@@ -1,6 +1,6 @@
 use Rattle.std.proofs.Common.{◌∙◌, ap, map, subst, sym}
-use Rattle.gtfs_stop_times.specs.ByTrip.{AreSoundPlaces, at_places}
-use Rattle.gtfs_stop_times.specs.Renumbered.{renumbered_row}
+use Rattle.gtfs_stop_times.specs.StopTimesByTrip.{AreSoundPlaces, at_places}
+use Rattle.gtfs_stop_times.specs.RenumberedRows.{renumbered_row}
 use Rattle.gtfs_stop_times.proofs.RangeFacts.{counted-after, rows-become, starts-stay}
 use Rattle.gtfs_stop_times.proofs.by_trip.StopTimesByTrip.renumbered.Goals as goal
 

@@ -1,8 +1,8 @@
 use Rattle.std.proofs.Common.{◌≡◌, ◌∙◌, ◌++◌, ℕ, List, ap, append-nil, map, subst}
-use Rattle.gtfs_stop_times.specs.ByTrip.{items_in, rows_in}
+use Rattle.gtfs_stop_times.specs.StopTimesByTrip.{items_in, rows_in}
 use Rattle.gtfs_stop_times.specs.StopLists.{stops_in}
 use Rattle.gtfs_stop_times.specs.declared.stop_row.StopRow.{StopRow}
-use Rattle.gtfs_table.specs.Parts.{parts}
+use Rattle.gtfs_table.specs.FieldOffsets.{parts}
 use Rattle.gtfs_stop_times.proofs.StopListFacts.{in-ranges-stops, in-turn-stops}
 use Rattle.gtfs_stop_times.proofs.by_trip.StopTimesByTrip.stop_lists.Goals as goal
 

@@ -1,8 +1,8 @@
 use Rattle.std.proofs.Common.{◌≡◌, ◌∙◌, ◌++◌, ap, append-nil, map}
 use Rattle.std.specs.List.{list_any}
 use Rattle.std.proofs.lemmas.Result.{IfOk-weaker}
-use Rattle.gtfs_stop_times.specs.ByTrip.{is_at, items_in}
-use Rattle.gtfs_table.specs.Parts.{parts}
+use Rattle.gtfs_stop_times.specs.StopTimesByTrip.{is_at, items_in}
+use Rattle.gtfs_table.specs.FieldOffsets.{parts}
 use Rattle.gtfs_stop_times.proofs.MarkedTrips.{in-ranges-marked, in-turn-marked}
 use Rattle.gtfs_stop_times.proofs.by_trip.StopTimesByTrip.trips_at.Goals as goal
 

@@ -1,6 +1,6 @@
 use Rattle.std.proofs.Common.{◌<◌, ◌+◌, ◌∙◌, ◌++◌, ap, arith, drop, length, map, subst, sym, take}
 use Rattle.std.proofs.lemmas.Option.{get_or_from_slice_get}
-use Rattle.gtfs_stop_times.specs.Headsigned.{AreGiven, Headsigned, rows_at, with_headsign_at}
+use Rattle.gtfs_stop_times.specs.HeadsignedRows.{AreGiven, Headsigned, rows_at, with_headsign_at}
 use Rattle.gtfs_stop_times.specs.KeptLists.{stop_times_at}
 use Rattle.gtfs_stop_times.proofs.HeadsignedFacts.{few-more, given-more, in-rows, left-is, left-more, rows-more, unnamed-next, within}
 use Rattle.gtfs_stop_times.proofs.headsigned.HeadsignedStopTimes.give.Goals as goal

@@ -2,9 +2,9 @@ use Rattle.std.proofs.Common.{◌≡◌, ◌<◌, ◌∙◌, ℕ, ap, get_or, le
 use Rattle.std.specs.List.{All}
 use Rattle.std.specs.Prelude.{IfSome}
 use Rattle.csv.specs.Records.{Rising}
-use Rattle.gtfs_stop_times.specs.ByTrip.{AreWithin}
-use Rattle.gtfs_table.specs.Parts.{parts}
-use Rattle.gtfs_stop_times.specs.Headsigned.{numbers_in, rows_at}
+use Rattle.gtfs_stop_times.specs.StopTimesByTrip.{AreWithin}
+use Rattle.gtfs_table.specs.FieldOffsets.{parts}
+use Rattle.gtfs_stop_times.specs.HeadsignedRows.{numbers_in, rows_at}
 use Rattle.gtfs_stop_times.proofs.HeadsignedFacts.{in-ranges, whole}
 use Rattle.gtfs_stop_times.proofs.headsigned.HeadsignedStopTimes.into_by_trip.Goals as goal
 

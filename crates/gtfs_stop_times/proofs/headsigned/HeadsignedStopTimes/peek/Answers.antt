@@ -1,7 +1,7 @@
 use Rattle.std.proofs.Common.{◌<◌, ◌∙◌, Some, ap, length, subst, sym}
 use Rattle.std.specs.Prelude.{slice_get}
 use Rattle.std.proofs.lemmas.Option.{get_or_from_slice_get}
-use Rattle.gtfs_stop_times.specs.Headsigned.{Headsigned}
+use Rattle.gtfs_stop_times.specs.HeadsignedRows.{Headsigned}
 use Rattle.gtfs_stop_times.proofs.HeadsignedFacts.{peeked}
 use Rattle.gtfs_stop_times.proofs.headsigned.HeadsignedStopTimes.peek.Goals as goal
 

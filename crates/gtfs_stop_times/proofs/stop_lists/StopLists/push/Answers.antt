@@ -1,5 +1,5 @@
 use Rattle.std.proofs.Common.{◌≡◌, ◌∙◌, ◌++◌, ◌∷◌, [], ap, arith, length, length-append, map}
-use Rattle.gtfs_stop_times.specs.ByTrip.{items_in}
+use Rattle.gtfs_stop_times.specs.StopTimesByTrip.{items_in}
 use Rattle.gtfs_stop_times.specs.StopLists.{stops_in}
 use Rattle.gtfs_stop_times.proofs.StopListFacts.{one-more-list}
 use Rattle.gtfs_stop_times.proofs.stop_lists.StopLists.push.Goals as goal

@@ -1,5 +1,5 @@
 use Rattle.std.proofs.Common.{ap, length, map, subst, sym}
-use Rattle.gtfs_stop_times.specs.ByTrip.{AreWithin, items_in}
+use Rattle.gtfs_stop_times.specs.StopTimesByTrip.{AreWithin, items_in}
 use Rattle.gtfs_stop_times.proofs.StopListFacts.{none-within}
 use Rattle.gtfs_stop_times.proofs.stop_lists.StopLists.with_room.Goals as goal
 

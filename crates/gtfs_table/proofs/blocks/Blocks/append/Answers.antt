@@ -1,6 +1,6 @@
 use Rattle.std.proofs.Common.{◌++◌, ◌-◌, arith}
 use Rattle.csv.specs.Records.{fields_of}
-use Rattle.gtfs_table.specs.Parts.{starts_of}
+use Rattle.gtfs_table.specs.FieldOffsets.{starts_of}
 use Rattle.gtfs_table.proofs.BlockFacts.{AreInBlocks, starts-pushed}
 use Rattle.gtfs_table.proofs.blocks.Blocks.append.Goals as goal
 use Rattle.gtfs_table.proofs.blocks.Blocks.append.Goals.{After-drop-self-inside}

@@ -1,5 +1,5 @@
 use Rattle.std.proofs.Common.{refl}
-use Rattle.gtfs_table.specs.Blocks.{offsets_from}
+use Rattle.gtfs_table.specs.OffsetBlocks.{offsets_from}
 use Rattle.gtfs_table.proofs.blocks.Blocks.new.Goals as goal
 
 pub returns : goal.returns

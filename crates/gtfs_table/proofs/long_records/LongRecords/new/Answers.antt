@@ -1,7 +1,7 @@
 use Rattle.std.proofs.Common.{refl, arith, ◌<◌, List, ℕ, length}
 use Rattle.csv.specs.Records.{Rising}
 use Rattle.std.proofs.lemmas.List.Elements.{All-nil}
-use Rattle.gtfs_table.specs.Parts.{parts}
+use Rattle.gtfs_table.specs.FieldOffsets.{parts}
 use Rattle.gtfs_table.proofs.long_records.LongRecords.new.Goals as goal
 
 pub invariant_of-result : goal.invariant_of-result

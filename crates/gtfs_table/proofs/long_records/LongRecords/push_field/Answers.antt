@@ -1,6 +1,6 @@
 use Rattle.std.proofs.Common.{◌≡◌, ◌++◌, ◌∷◌, []}
 use Rattle.csv.proofs.RecordFacts.{by_outcome}
-use Rattle.gtfs_table.specs.Parts.{add_to_last}
+use Rattle.gtfs_table.specs.FieldOffsets.{add_to_last}
 use Rattle.gtfs_table.proofs.StoreFacts.{IsRecordPush, field-push, on_ok-map}
 use Rattle.gtfs_table.proofs.long_records.LongRecords.push_field.Goals as goal
 

@@ -1,6 +1,6 @@
 use Rattle.std.proofs.Common.{refl, arith}
 use Rattle.csv.specs.Records.{AllText, Rising}
-use Rattle.gtfs_table.specs.Parts.{between}
+use Rattle.gtfs_table.specs.FieldOffsets.{between}
 use Rattle.gtfs_table.proofs.record.Record.of_long.Goals as goal
 
 pub invariant_of-result : goal.invariant_of-result

@@ -1,6 +1,6 @@
 use Rattle.std.proofs.Common.{refl, arith}
 use Rattle.csv.specs.Records.{Rising}
-use Rattle.gtfs_table.specs.Parts.{parts}
+use Rattle.gtfs_table.specs.FieldOffsets.{parts}
 use Rattle.gtfs_table.proofs.runs.Runs.in_memory.Goals as goal
 
 pub invariant_of-result : goal.invariant_of-result

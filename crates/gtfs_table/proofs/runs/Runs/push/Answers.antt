@@ -1,7 +1,7 @@
 use Rattle.std.proofs.Common.{◌≡◌, ◌+◌, ◌++◌, ◌∷◌, ◌∙◌, [], ℕ, List, length, ap, arith, append_assoc, length-append}
 use Rattle.csv.specs.Records.{fields_of}
-use Rattle.gtfs_table.specs.Parts.{marks_of}
-use Rattle.gtfs_table.specs.Storage.{run_of}
+use Rattle.gtfs_table.specs.FieldOffsets.{marks_of}
+use Rattle.gtfs_table.specs.StoredRecords.{run_of}
 use Rattle.gtfs_table.proofs.MarkedFacts.{count-marks}
 use Rattle.gtfs_table.proofs.RunFacts.{AreRuns, first-push, run-push}
 use Rattle.gtfs_table.proofs.runs.Runs.push.Goals as goal

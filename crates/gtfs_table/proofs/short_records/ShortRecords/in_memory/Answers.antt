@@ -1,6 +1,6 @@
 use Rattle.std.proofs.Common.{refl}
 use Rattle.std.proofs.lemmas.List.Elements.{All-nil}
-use Rattle.gtfs_table.specs.Storage.{IsRun}
+use Rattle.gtfs_table.specs.StoredRecords.{IsRun}
 use Rattle.gtfs_table.proofs.short_records.ShortRecords.in_memory.Goals as goal
 
 pub invariant_of-result : goal.invariant_of-result

@@ -1,5 +1,5 @@
 use Rattle.std.proofs.Common.{◌∙◌, ap, arith}
-use Rattle.gtfs_table.specs.Pieces.{feeds_last}
+use Rattle.gtfs_table.specs.FilePieces.{feeds_last}
 use Rattle.gtfs_table.proofs.PieceFacts.{ends_within-by_last, last-record}
 use Rattle.gtfs_table.proofs.table_reader.TableReader.ends_within.Goals as goal
 

@@ -1,6 +1,6 @@
 use Rattle.std.proofs.Common.{◌≡◌, ◌∙◌, [], sym, subst}
 use Rattle.std.specs.Str.{IsUtf8}
-use Rattle.gtfs_table.specs.Progress.{Progress}
+use Rattle.gtfs_table.specs.ReadingProgress.{Progress}
 use Rattle.gtfs_table.specs.Tables.{without_marks}
 use Rattle.gtfs_table.proofs.MarkFacts.{strip-without_marks}
 use Rattle.gtfs_table.proofs.ProgressFacts.{never-text, rest-not_utf8, rest-read}

@@ -3,8 +3,8 @@ use Rattle.std.proofs.Math.Seq.{drop-append_seam}
 use Rattle.std.proofs.lemmas.List.{length-drop, take_all}
 use Rattle.std.specs.Str.{IsUtf8}
 use Rattle.csv.specs.Reading.{default_config, records}
-use Rattle.gtfs_table.specs.Pieces.{ends_within}
-use Rattle.gtfs_table.specs.Progress.{Progress}
+use Rattle.gtfs_table.specs.FilePieces.{ends_within}
+use Rattle.gtfs_table.specs.ReadingProgress.{Progress}
 use Rattle.gtfs_table.specs.Tables.{without_marks}
 use Rattle.gtfs_table.proofs.MarkFacts.{strip-without_marks}
 use Rattle.gtfs_table.proofs.ProgressFacts.{lines-refused, lines-taken, never-text}

@@ -1,5 +1,5 @@
 use Rattle.std.proofs.Common.{◌∙◌, ◌++◌, ap, sym}
-use Rattle.gtfs_table.specs.Progress.{Progress, table_after}
+use Rattle.gtfs_table.specs.ReadingProgress.{Progress, table_after}
 use Rattle.gtfs_table.proofs.ProgressFacts.{never-text, piece-kept}
 use Rattle.gtfs_table.proofs.table_reader.TableReader.take_part.Goals as goal
 

@@ -1,6 +1,6 @@
 use Rattle.std.proofs.Common.{◌∙◌, ◌++◌, ℕ, List, ap, append_assoc, arith, drop, length-drop, sym, take, take-append-drop}
 use Rattle.std.proofs.lemmas.List.{take_all}
-use Rattle.gtfs_table.specs.Progress.{table_after}
+use Rattle.gtfs_table.specs.ReadingProgress.{table_after}
 use Rattle.gtfs_table.proofs.table_reader.TableReaderFileReader.take.Goals as goal
 
 pub loop-behind-preserved : goal.loop-behind-preserved

@@ -1,5 +1,5 @@
 use Rattle.std.proofs.Common.{◌≡◌, ◌++◌, ℕ, List, length}
-use Rattle.gtfs_table.specs.Progress.{table_after}
+use Rattle.gtfs_table.specs.ReadingProgress.{table_after}
 use Rattle.gtfs_table.proofs.table_reader.TableReaderFileReader.take.Given as goal
 
 abbrev pub invariant-loop-behind : goal.invariant-loop-behind

@@ -1,10 +1,10 @@
 use Rattle.std.proofs.Common.{◌≡◌, ◌∙◌, ◌+◌, ℕ, Option, get_or, take, subst, refl, arith}
 use Rattle.gtfs_devices.specs.Device.{MakesSomeCalls}
 use Rattle.gtfs_devices.specs.Folder.{CountsFault, Store}
-use Rattle.gtfs_table.specs.Reading.{AllHoldWithin, HoldsTable, HoldsWithin, RefusesDataset, kept_files}
+use Rattle.gtfs_table.specs.TablesRead.{AllHoldWithin, HoldsTable, HoldsWithin, RefusesDataset, kept_files}
 use Rattle.gtfs_table.specs.declared.file.File.TheVariants as file
-use Rattle.gtfs_table.specs.Ending.{EndsAtFile}
-use Rattle.gtfs_table.specs.Files.{file_name}
+use Rattle.gtfs_table.specs.ReadingEnds.{EndsAtFile}
+use Rattle.gtfs_table.specs.FileNames.{file_name}
 use Rattle.gtfs_table.proofs.EndingFacts.{ends-at, of-fault, refused-from}
 use Rattle.gtfs_table.proofs.FolderFacts.{calls-more, calls-none, calls-some, on_err-always, refused-read, sets-none, sets-more, within-more, within-none}
 use Rattle.gtfs_table.proofs.tables.Tables.read_files.Goals as goal

@@ -1,6 +1,6 @@
 use Rattle.std.proofs.Common.{◌≡◌, take}
 use Rattle.gtfs_devices.specs.Device.{MakesCalls}
-use Rattle.gtfs_table.specs.Reading.{AllHoldWithin, SetsTables, kept_files}
+use Rattle.gtfs_table.specs.TablesRead.{AllHoldWithin, SetsTables, kept_files}
 use Rattle.gtfs_table.proofs.tables.Tables.read_files.Given as goal
 
 abbrev pub invariant-loop-file : goal.invariant-loop-file

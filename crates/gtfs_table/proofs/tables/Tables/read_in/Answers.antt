@@ -1,8 +1,8 @@
 use Rattle.std.proofs.Common.{ℕ, sym, subst, inl, inr}
 use Rattle.gtfs_devices.specs.Device.{MakesSomeCalls}
 use Rattle.gtfs_devices.specs.Folder.{CountsFault}
-use Rattle.gtfs_table.specs.Ending.{EndsReading}
-use Rattle.gtfs_table.specs.Reading.{AreOthers}
+use Rattle.gtfs_table.specs.ReadingEnds.{EndsReading}
+use Rattle.gtfs_table.specs.TablesRead.{AreOthers}
 use Rattle.gtfs_devices.specs.declared.folders.FolderFault.{FolderFault}
 use Rattle.gtfs_devices.specs.declared.folders.FolderFault.TheVariants.{OutOfMemory}
 use Rattle.gtfs_table.proofs.EndingFacts.{ends-from, of-fault}

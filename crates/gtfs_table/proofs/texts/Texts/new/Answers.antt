@@ -1,6 +1,6 @@
 use Rattle.std.proofs.Common.{refl, arith}
 use Rattle.csv.specs.Records.{AllText, Rising}
-use Rattle.gtfs_table.specs.Parts.{parts}
+use Rattle.gtfs_table.specs.FieldOffsets.{parts}
 use Rattle.gtfs_table.proofs.texts.Texts.new.Goals as goal
 
 pub invariant_of-result : goal.invariant_of-result

@@ -6,7 +6,7 @@ use Rattle.gtfs_table.specs.Tables.{field_under}
 use Rattle.gtfs_table.specs.declared.file.File.TheVariants as file
 use Rattle.gtfs_table.proofs.RowFacts.{all_taken, turn}
 use Rattle.gtfs_schema.specs.declared.code.Code.TheVariants as code
-use Rattle.gtfs_schema.specs.steps.Picks.{at_column}
+use Rattle.gtfs_schema.specs.steps.KeptColumns.{at_column}
 use Rattle.gtfs_schema.specs.TripRules.{has_few_rows}
 use Rattle.gtfs_schema.proofs.RowFacts.{reported_all, reported_more, reported_none}
 use Rattle.gtfs_schema.proofs.RuleFacts.{row_reported, silent_column}

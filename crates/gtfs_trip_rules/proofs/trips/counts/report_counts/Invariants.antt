@@ -6,8 +6,8 @@ use Rattle.gtfs_trip_rules.specs.TripNotes.{times_noted}
 use Rattle.gtfs_table.specs.Rows.{numbers}
 use Rattle.gtfs_table.specs.declared.file.File.TheVariants as file
 use Rattle.gtfs_schema.specs.declared.code.Code.TheVariants as code
-use Rattle.gtfs_schema.specs.steps.Found.{Reports}
-use Rattle.gtfs_schema.specs.steps.Picks.{at_column}
+use Rattle.gtfs_schema.specs.steps.FoundProblems.{Reports}
+use Rattle.gtfs_schema.specs.steps.KeptColumns.{at_column}
 use Rattle.gtfs_schema.proofs.RowFacts.{at_rows}
 use Rattle.gtfs_trip_rules.proofs.trips.counts.report_counts.Given as goal
 

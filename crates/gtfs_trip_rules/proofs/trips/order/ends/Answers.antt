@@ -2,7 +2,7 @@ use Rattle.std.proofs.Common.{◌≡◌, ◌∙◌, ◌∷◌, ◌+◌, ◌<◌,
 use Rattle.std.specs.Prelude.{◌==◌, if◌then◌else◌, not, slice_get, Some}
 use Rattle.std.proofs.lemmas.List.{drop_more}
 use Rattle.std.proofs.lemmas.Option.{get_or_from_slice_get}
-use Rattle.gtfs_trip_rules.specs.TripJudged.{ends_trip, is_twin}
+use Rattle.gtfs_trip_rules.specs.JudgedTrips.{ends_trip, is_twin}
 use Rattle.gtfs_stop_times.specs.declared.stop_time.StopTime.{StopTime}
 use Rattle.gtfs_trip_rules.proofs.trips.order.ends.Goals as goal
 

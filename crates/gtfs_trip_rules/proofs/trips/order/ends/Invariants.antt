@@ -1,5 +1,5 @@
 use Rattle.std.proofs.Common.{◌≡◌, ◌+◌, drop}
-use Rattle.gtfs_trip_rules.specs.TripJudged.{ends_trip}
+use Rattle.gtfs_trip_rules.specs.JudgedTrips.{ends_trip}
 use Rattle.gtfs_trip_rules.proofs.trips.order.ends.Given as goal
 
 -- the rows between are of the same trip and sequence

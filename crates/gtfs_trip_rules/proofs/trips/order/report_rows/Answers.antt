@@ -1,7 +1,7 @@
 use Rattle.std.proofs.Common.{◌≡◌, ◌∙◌, ◌∷◌, ◌+◌, ◌<◌, ap, arith, drop, get_or, length, reverse, subst, sym, take}
 use Rattle.std.proofs.lemmas.Option.{get_or_from_slice_get}
-use Rattle.gtfs_schema.specs.steps.Found.{Reports}
-use Rattle.gtfs_trip_rules.specs.TripJudged.{is_end_untimed, is_late, repeats_last, AddsOfRow, Judges}
+use Rattle.gtfs_schema.specs.steps.FoundProblems.{Reports}
+use Rattle.gtfs_trip_rules.specs.JudgedTrips.{is_end_untimed, is_late, repeats_last, AddsOfRow, Judges}
 use Rattle.gtfs_trip_rules.specs.TripOrder.{rows_before}
 use Rattle.gtfs_trip_rules.proofs.JudgedRows.{all_told, told_more}
 use Rattle.gtfs_trip_rules.proofs.SplitLists.{before_more}

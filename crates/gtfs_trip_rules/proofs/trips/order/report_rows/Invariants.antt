@@ -1,7 +1,7 @@
 use Rattle.std.proofs.Common.{reverse, take}
 use Rattle.gtfs_table.specs.Tables.{Dataset}
-use Rattle.gtfs_schema.specs.steps.Found.{Reports}
-use Rattle.gtfs_trip_rules.specs.TripJudged.{Judges}
+use Rattle.gtfs_schema.specs.steps.FoundProblems.{Reports}
+use Rattle.gtfs_trip_rules.specs.JudgedTrips.{Judges}
 use Rattle.gtfs_trip_rules.specs.TripOrder.{rows_before, AreInOrder}
 use Rattle.gtfs_trip_rules.proofs.TripReports.{seen}
 use Rattle.gtfs_trip_rules.proofs.trips.order.report_rows.Given as goal

@@ -1,7 +1,7 @@
 use Rattle.std.proofs.Common.{◌∙◌, ◌+◌, ap, sym, drop, get_or, length}
 use Rattle.std.proofs.lemmas.Bool.{ne_eqb}
 use Rattle.csv.specs.Writing.{default_writer, escaped}
-use Rattle.gtfs_writing.specs.Taking.{room_after}
+use Rattle.gtfs_writing.specs.TakenRecords.{room_after}
 use Rattle.gtfs_writing.proofs.TextFacts.{room-done, room-other, room-quote}
 use Rattle.gtfs_writing.proofs.room_rows.RoomRows.take_escaped.Goals as goal
 use Rattle.gtfs_writing.proofs.room_rows.RoomRows.take_escaped.Goals.{then-byte-eq34, else-byte-eq34}

@@ -1,6 +1,6 @@
 use Rattle.std.proofs.Common.{◌≡◌, drop, length}
 use Rattle.csv.specs.Writing.{default_writer, escaped}
-use Rattle.gtfs_writing.specs.Taking.{room_after}
+use Rattle.gtfs_writing.specs.TakenRecords.{room_after}
 use Rattle.gtfs_writing.proofs.room_rows.RoomRows.take_escaped.Given as goal
 
 -- what the bytes that are left leave is what all leave

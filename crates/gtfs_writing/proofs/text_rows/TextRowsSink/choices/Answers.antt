@@ -1,7 +1,7 @@
 use Rattle.std.proofs.Common.{◌∙◌, ◌++◌, ◌∷◌, [], ap, sym}
 use Rattle.csv.specs.Machine.{line_feed}
 use Rattle.csv.specs.Writing.{default_writer, fields_text}
-use Rattle.gtfs_writing.specs.Taking.{choice_fields}
+use Rattle.gtfs_writing.specs.TakenRecords.{choice_fields}
 use Rattle.gtfs_writing.proofs.TextFacts.{pushed-last}
 use Rattle.gtfs_writing.proofs.text_rows.TextRowsSink.choices.Goals as goal
 

@@ -1,7 +1,7 @@
 use Rattle.std.proofs.Common.{◌∙◌, not, sym, ap}
 use Rattle.std.specs.Prelude.{option_map}
 use Rattle.gtfs_days.specs.Zone.{zone_origin}
-use Rattle.gtfs_rows.specs.Views.{content_of_parts}
+use Rattle.gtfs_rows.specs.RowsInMemory.{content_of_parts}
 use Rattle.gtfs_cli.specs.LentBoardRequests.{stop_request_of}
 use Rattle.gtfs_cli.proofs.RequestFaults.{ends_before, has_stop, nothing_wrong, stop_unknown}
 use Rattle.gtfs_cli.proofs.commands.boards.requests.line_fault.Goals as goal

@@ -1,5 +1,5 @@
 use Rattle.std.proofs.Common.{◌∙◌, ap, map}
-use Rattle.gtfs_rows.specs.Views.{content_of_parts}
+use Rattle.gtfs_rows.specs.RowsInMemory.{content_of_parts}
 use Rattle.gtfs_advice.specs.Advice.{advice, advice_of}
 use Rattle.gtfs_cli.specs.AdviceLines.{advice_lines}
 use Rattle.gtfs_cli.proofs.SentLines.{lines-passed, lines-same, lines-unmade, lines-whole}

@@ -1,7 +1,7 @@
 use Rattle.std.proofs.Common.{None, map, take}
 use Rattle.gtfs_advice.specs.Advice.{advice_of}
 use Rattle.gtfs_cli.specs.AdviceLines.{advice_line}
-use Rattle.gtfs_cli.specs.Sending.{joined}
+use Rattle.gtfs_cli.specs.SentText.{joined}
 use Rattle.gtfs_cli.proofs.Sent.{output, SentWhole}
 use Rattle.gtfs_cli.proofs.commands.check.printed_advice.print_each.Given as goal
 

@@ -5,7 +5,7 @@ use Rattle.gtfs_advice.specs.Codes.{advice_rank}
 use Rattle.gtfs_advice.specs.declared.code.Code.{Code}
 use Rattle.gtfs_cli.specs.AdviceLines.{advice_line, has_one_code}
 use Rattle.gtfs_cli.specs.FirstOfEachKind.{firsts}
-use Rattle.gtfs_cli.specs.Sending.{joined}
+use Rattle.gtfs_cli.specs.SentText.{joined}
 use Rattle.gtfs_cli.proofs.Sent.{output, SentWhole}
 use Rattle.gtfs_cli.proofs.commands.check.printed_advice.print_firsts.Given as goal
 

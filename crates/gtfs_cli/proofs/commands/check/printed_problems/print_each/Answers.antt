@@ -1,6 +1,6 @@
 use Rattle.std.proofs.Common.{[], map, None, refl}
 use Rattle.gtfs_schema.specs.Problems.{Problem}
-use Rattle.gtfs_schema.specs.View.{problem_of}
+use Rattle.gtfs_schema.specs.ProblemTexts.{problem_of}
 use Rattle.gtfs_cli.specs.CheckLines.{shown_line}
 use Rattle.gtfs_cli.proofs.MadeLines.{line-at, lines-end, lines-inside}
 use Rattle.gtfs_cli.proofs.SentLines.{line-failed, line-more, lines-sent}

@@ -1,7 +1,7 @@
 use Rattle.std.proofs.Common.{map, take, None}
-use Rattle.gtfs_schema.specs.View.{problem_of}
+use Rattle.gtfs_schema.specs.ProblemTexts.{problem_of}
 use Rattle.gtfs_cli.specs.CheckLines.{shown_line}
-use Rattle.gtfs_cli.specs.Sending.{joined}
+use Rattle.gtfs_cli.specs.SentText.{joined}
 use Rattle.gtfs_cli.proofs.Sent.{output, SentWhole}
 use Rattle.gtfs_cli.proofs.commands.check.printed_problems.print_each.Given as goal
 

@@ -1,5 +1,5 @@
 use Rattle.std.proofs.Common.{[], map}
-use Rattle.gtfs_schema.specs.View.{problem_of}
+use Rattle.gtfs_schema.specs.ProblemTexts.{problem_of}
 use Rattle.gtfs_cli.specs.CheckLines.{is_alike, shown_line}
 use Rattle.gtfs_cli.specs.FirstOfEachKind.{firsts}
 use Rattle.gtfs_cli.proofs.AlikeProblems.{kind-line-at, kinds-left}

@@ -1,11 +1,11 @@
 use Rattle.std.proofs.Common.{◌≡◌, None, cond, map, take}
 use Rattle.std.specs.List.{list_any}
-use Rattle.gtfs_schema.specs.View.{problem_of}
+use Rattle.gtfs_schema.specs.ProblemTexts.{problem_of}
 use Rattle.gtfs_schema.specs.declared.problem.Problem.{Problem as Lent}
 use Rattle.gtfs_cli.specs.CheckLines.{count_alike, is_alike, shown_line}
 use Rattle.gtfs_cli.specs.FirstOfEachKind.{firsts}
-use Rattle.gtfs_cli.specs.KindCounts.{held_for, if_any}
-use Rattle.gtfs_cli.specs.Sending.{joined}
+use Rattle.gtfs_cli.specs.CountsByKind.{held_for, if_any}
+use Rattle.gtfs_cli.specs.SentText.{joined}
 use Rattle.gtfs_cli.proofs.Sent.{output, SentWhole}
 use Rattle.gtfs_cli.proofs.commands.check.printed_problems.print_kinds.Given as goal
 

@@ -1,6 +1,6 @@
 use Rattle.std.proofs.Common.{[], ◌∷◌, string_bytes}
 use Rattle.std.specs.Prelude.{option_map}
-use Rattle.gtfs_schema.specs.View.{problem_of}
+use Rattle.gtfs_schema.specs.ProblemTexts.{problem_of}
 use Rattle.gtfs_cli.specs.CheckLines.{line_with}
 use Rattle.gtfs_cli.proofs.Sent.{sent-made}
 use Rattle.gtfs_cli.proofs.SentLines.{line-sent, lines-unmade}

@@ -1,5 +1,5 @@
 use Rattle.std.proofs.Common.{ℕ, List, [], ◌∷◌, Option, ap}
-use Rattle.gtfs_schema.specs.View.{problem_of}
+use Rattle.gtfs_schema.specs.ProblemTexts.{problem_of}
 use Rattle.gtfs_cli.specs.CheckLines.{line_with}
 use Rattle.gtfs_cli.proofs.SentLines.{lines-same}
 use Rattle.gtfs_cli.proofs.commands.check.printed_problems.print_shown.Goals as goal

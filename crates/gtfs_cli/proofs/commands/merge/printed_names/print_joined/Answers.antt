@@ -1,6 +1,6 @@
 use Rattle.std.proofs.Common.{◌≡◌, ap, length, List, ℕ}
 use Rattle.gtfs_merge.specs.Names.{AllNames, in_kind}
-use Rattle.gtfs_merge.specs.Report.{joined_line, kinds}
+use Rattle.gtfs_merge.specs.MergeReport.{joined_line, kinds}
 use Rattle.gtfs_merge.specs.declared.kind.Kind.{Kind}
 use Rattle.gtfs_cli.specs.MergeReport.{count_line}
 use Rattle.gtfs_cli.proofs.Sent.{item-failed, item-sent, items-sent}

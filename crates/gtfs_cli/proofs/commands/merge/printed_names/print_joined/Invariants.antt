@@ -1,6 +1,6 @@
 use Rattle.std.proofs.Common.{take}
 use Rattle.std.specs.Prelude.{flat_map}
-use Rattle.gtfs_merge.specs.Report.{kinds}
+use Rattle.gtfs_merge.specs.MergeReport.{kinds}
 use Rattle.gtfs_cli.specs.MergeReport.{count_line}
 use Rattle.gtfs_cli.proofs.Sent.{output, SentWhole}
 use Rattle.gtfs_cli.proofs.commands.merge.printed_names.print_joined.Given as goal

@@ -1,5 +1,5 @@
 use Rattle.std.proofs.Common.{refl}
-use Rattle.gtfs_merge.specs.Report.{kinds}
+use Rattle.gtfs_merge.specs.MergeReport.{kinds}
 use Rattle.gtfs_cli.specs.MergeReport.{both_lines}
 use Rattle.gtfs_cli.proofs.Sent.{item-failed, item-sent, items-sent}
 use Rattle.gtfs_cli.proofs.commands.merge.printed_names.print_renamed.Goals as goal

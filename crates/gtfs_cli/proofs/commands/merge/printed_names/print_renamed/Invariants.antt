@@ -1,6 +1,6 @@
 use Rattle.std.proofs.Common.{take}
 use Rattle.std.specs.Prelude.{flat_map}
-use Rattle.gtfs_merge.specs.Report.{kinds}
+use Rattle.gtfs_merge.specs.MergeReport.{kinds}
 use Rattle.gtfs_cli.specs.MergeReport.{both_lines}
 use Rattle.gtfs_cli.proofs.Sent.{output, SentWhole}
 use Rattle.gtfs_cli.proofs.commands.merge.printed_names.print_renamed.Given as goal

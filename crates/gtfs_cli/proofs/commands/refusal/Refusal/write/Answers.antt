@@ -1,7 +1,7 @@
 use Rattle.std.proofs.Common.{◌≡◌, ◌∙◌, ap, List, ℕ, sym, subst}
 use Rattle.std.specs.Prelude.{OnErr}
 use Rattle.gtfs_cli.specs.RefusalMessages.{message}
-use Rattle.gtfs_cli.specs.Sending.{SendsBeginning}
+use Rattle.gtfs_cli.specs.SentText.{SendsBeginning}
 use Rattle.gtfs_cli.proofs.Parts.{first-sent}
 use Rattle.gtfs_cli.proofs.commands.refusal.Refusal.write.Goals as goal
 

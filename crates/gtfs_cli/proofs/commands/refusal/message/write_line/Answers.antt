@@ -1,7 +1,7 @@
 use Rattle.std.proofs.Common.{◌++◌, List, ℕ, codes, refl, subst}
-use Rattle.gtfs_schema.specs.Values.{plain}
+use Rattle.gtfs_schema.specs.FieldValues.{plain}
 use Rattle.gtfs_cli.specs.RefusalMessages.{line_of}
-use Rattle.gtfs_cli.specs.Sending.{SendsBeginning}
+use Rattle.gtfs_cli.specs.SentText.{SendsBeginning}
 use Rattle.std.specs.Io.KnownBytes.{Appends}
 use Rattle.gtfs_table.proofs.FolderFacts.{on_err-always}
 use Rattle.gtfs_cli.proofs.Parts.{all-left, err-then, first-sent, last-cut, one-cut, one-sent, some-sent}

@@ -3,8 +3,8 @@ use Rattle.std.specs.Io.KnownBytes.{Appends}
 use Rattle.std.proofs.lemmas.List.{take_rest}
 use Rattle.gtfs_table.proofs.FolderFacts.{on_err-always}
 use Rattle.gtfs_table.proofs.StoreFacts.{on_ok-map}
-use Rattle.gtfs_schema.specs.Values.{plain}
-use Rattle.gtfs_cli.specs.Sending.{SendsBeginning}
+use Rattle.gtfs_schema.specs.FieldValues.{plain}
+use Rattle.gtfs_cli.specs.SentText.{SendsBeginning}
 use Rattle.gtfs_cli.proofs.ControlSplit.{none-found, split-at}
 use Rattle.gtfs_cli.proofs.Parts.{Leaves, err-then, first-sent, last-cut, last-sent, one-cut, one-sent, some-sent}
 use Rattle.gtfs_cli.proofs.commands.refusal.message.write_shown.Goals as goal

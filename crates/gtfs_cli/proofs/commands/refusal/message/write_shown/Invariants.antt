@@ -1,5 +1,5 @@
 use Rattle.std.proofs.Common.{◌≤◌, length}
-use Rattle.gtfs_schema.specs.Values.{plain}
+use Rattle.gtfs_schema.specs.FieldValues.{plain}
 use Rattle.gtfs_cli.proofs.Parts.{Leaves}
 use Rattle.gtfs_cli.proofs.commands.refusal.message.write_shown.Given as goal
 

@@ -2,7 +2,7 @@ use Rattle.std.proofs.Common.{◌≡◌, ◌<◌, ◌∙◌, ℕ, None, ap, get_
 use Rattle.std.specs.Prelude.{All, IfSome}
 use Rattle.gtfs_merge.specs.Twins.{twin_rows, of_kind}
 use Rattle.gtfs_merge.specs.FeedIds.{known_ids}
-use Rattle.gtfs_merge.specs.Entries.{entry_value}
+use Rattle.gtfs_merge.specs.MergeEntries.{entry_value}
 use Rattle.gtfs_merge.specs.NewNumbers.{number_or}
 use Rattle.gtfs_merge.specs.declared.kind.Side.TheVariants as side
 use Rattle.gtfs_merge.proofs.JoinedIds.{of-kind-length}

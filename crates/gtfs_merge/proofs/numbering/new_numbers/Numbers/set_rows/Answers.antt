@@ -1,6 +1,6 @@
 use Rattle.std.proofs.Common.{◌≡◌, ◌<◌, ◌≤◌, ◌∙◌, ap, arith, get_or, length, map, subst, sym}
 use Rattle.std.proofs.lemmas.List.{get_or-map, length-map}
-use Rattle.gtfs_merge.specs.Entries.{Entry, entry_value}
+use Rattle.gtfs_merge.specs.MergeEntries.{Entry, entry_value}
 use Rattle.gtfs_merge.specs.NewNumbers.{numbers_of}
 use Rattle.gtfs_merge.proofs.NumberTables.{none-set, set-more}
 use Rattle.gtfs_merge.proofs.Ordering.{own-row, row_at}

@@ -1,5 +1,5 @@
 use Rattle.std.proofs.Common.{map}
-use Rattle.gtfs_merge.specs.Entries.{entry_value}
+use Rattle.gtfs_merge.specs.MergeEntries.{entry_value}
 use Rattle.gtfs_merge.proofs.NumberTables.{AreSet}
 use Rattle.gtfs_merge.proofs.numbering.new_numbers.Numbers.set_rows.Given as goal
 

@@ -1,7 +1,7 @@
 use Rattle.std.proofs.Common.{◌≡◌, ◌∙◌, ap, map, refl}
-use Rattle.gtfs_merge.specs.Law.{AreFew}
+use Rattle.gtfs_merge.specs.MergedDepartures.{AreFew}
 use Rattle.gtfs_merge.specs.MergedLists.{joined_stop_times}
-use Rattle.gtfs_merge.specs.Sides.{content_a, content_b}
+use Rattle.gtfs_merge.specs.MergedSides.{content_a, content_b}
 use Rattle.gtfs_merge.specs.TripRows.{entry_trip}
 use Rattle.gtfs_merge.specs.declared.kind.Kind.{Kind}
 use Rattle.gtfs_merge.specs.declared.rows.all_lists.MergedLists.{MergedLists}

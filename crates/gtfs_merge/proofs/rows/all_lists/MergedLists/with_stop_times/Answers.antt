@@ -1,7 +1,7 @@
 use Rattle.std.proofs.Common.{◌≡◌, ◌∙◌, map}
-use Rattle.gtfs_stop_times.specs.ByTrip.{in_turn}
-use Rattle.gtfs_stop_times.specs.Joined.{trip_rows}
-use Rattle.gtfs_stop_times.specs.Renumbered.{renumbered_row}
+use Rattle.gtfs_stop_times.specs.StopTimesByTrip.{in_turn}
+use Rattle.gtfs_stop_times.specs.JoinedStopTimes.{trip_rows}
+use Rattle.gtfs_stop_times.specs.RenumberedRows.{renumbered_row}
 use Rattle.gtfs_merge.specs.MergedLists.{joined_stop_times, parts_with}
 use Rattle.gtfs_merge.specs.TripRows.{with_numbers}
 use Rattle.gtfs_merge.proofs.rows.all_lists.MergedLists.with_stop_times.Goals as goal

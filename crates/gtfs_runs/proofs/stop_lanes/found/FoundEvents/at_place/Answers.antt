@@ -1,9 +1,9 @@
 use Rattle.std.proofs.Common.{List, map, sym, ap, subst}
 use Rattle.std.specs.List.{All}
 use Rattle.gtfs_runs.specs.StopLanes.{LaneValue, period_value}
-use Rattle.gtfs_runs.specs.declared.stop_index.DepartureRow.{DepartureRow}
+use Rattle.gtfs_runs.specs.declared.departure_row.DepartureRow.{DepartureRow}
 use Rattle.gtfs_runs.specs.declared.stop_lanes.listed.ListedEvent.{ListedEvent}
-use Rattle.gtfs_runs.specs.steps.RowFinds.{AreAdded, IsInside}
+use Rattle.gtfs_runs.specs.steps.FoundAtRow.{AreAdded, IsInside}
 use Rattle.gtfs_runs.proofs.RowFinds.{all_found}
 use Rattle.gtfs_runs.proofs.stop_lanes.found.FoundEvents.at_place.Goals as goal
 

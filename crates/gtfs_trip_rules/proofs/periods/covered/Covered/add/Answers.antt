@@ -4,7 +4,7 @@ use Rattle.std.specs.Prelude.{◌&&◌, ◌||◌, min, nat_eq}
 use Rattle.gtfs_trip_rules.proofs.SpanFacts.{taken_out}
 use Rattle.gtfs_trip_rules.proofs.SpanChanges.{joined, merged, out_apart, out_filled}
 use Rattle.gtfs_trip_rules.proofs.periods.covered.Covered.add.Goals as goal
-use Rattle.gtfs_trip_rules.specs.SpanView.{Key, covers, shares}
+use Rattle.gtfs_trip_rules.specs.PeriodSpans.{Key, covers, shares}
 
 pub invariant_of-self : goal.invariant_of-self
 invariant_of-self c = let old = c.loop-met_start.self in

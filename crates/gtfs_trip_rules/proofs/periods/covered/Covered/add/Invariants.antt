@@ -1,6 +1,6 @@
 use Rattle.std.proofs.Common.{◌≡◌, ℕ, ◌&&◌, ◌||◌, ◌<◌, length}
 use Rattle.std.specs.Prelude.{nat_eq}
-use Rattle.gtfs_trip_rules.specs.SpanView.{covers, shares}
+use Rattle.gtfs_trip_rules.specs.PeriodSpans.{covers, shares}
 use Rattle.gtfs_trip_rules.proofs.periods.covered.Covered.add.Given as goal
 
 -- the spans that are left and the one to come cover what the spans and the period do

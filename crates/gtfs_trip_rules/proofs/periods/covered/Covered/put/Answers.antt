@@ -2,7 +2,7 @@ use Rattle.std.proofs.Common.{arith, ◌<◌, ◌∙◌}
 use Rattle.std.specs.Prelude.{◌&&◌, nat_eq}
 use Rattle.gtfs_trip_rules.proofs.SpanFacts.{put_in}
 use Rattle.gtfs_trip_rules.proofs.SpanChanges.{absent, or_turned, settled}
-use Rattle.gtfs_trip_rules.specs.SpanView.{covers, shares}
+use Rattle.gtfs_trip_rules.specs.PeriodSpans.{covers, shares}
 use Rattle.gtfs_trip_rules.proofs.periods.covered.Covered.put.Goals as goal
 
 pub invariant_of-self : goal.invariant_of-self

@@ -1,7 +1,7 @@
 use Rattle.gtfs_table.specs.Rows.{records_in}
 use Rattle.gtfs_table.specs.Tables.{field_under, record_at}
 use Rattle.gtfs_table.specs.declared.file.File.TheVariants as file
-use Rattle.gtfs_trip_rules.specs.ServiceView.{week_of_days}
+use Rattle.gtfs_trip_rules.specs.ServiceCalendars.{week_of_days}
 use Rattle.gtfs_trip_rules.proofs.services.weeks.Weeks.new.Goals as goal
 
 pub returns : goal.returns

@@ -2,7 +2,7 @@ use Rattle.std.proofs.Common.{◌≡◌, ℕ, ◌≤◌, List, [], ◌∷◌, le
 use Rattle.gtfs_days.specs.declared.week.Week.{Week}
 use Rattle.gtfs_trip_rules.specs.RowsById.{IdRow}
 use Rattle.gtfs_trip_rules.specs.ServiceFields.{week_in}
-use Rattle.gtfs_trip_rules.specs.ServiceView.{week_of_rows}
+use Rattle.gtfs_trip_rules.specs.ServiceCalendars.{week_of_rows}
 use Rattle.gtfs_trip_rules.proofs.services.weeks.Weeks.of.Goals as goal
 
 two_rows : (read : ℕ → Option Week) (rs : List IdRow) → 2 ≤ length rs → None ≡ week_of_rows read (map (λ r. r.1) rs)

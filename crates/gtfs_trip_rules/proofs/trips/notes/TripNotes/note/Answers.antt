@@ -6,7 +6,7 @@ use Rattle.gtfs_schema.specs.IdNumbers.{number_among}
 use Rattle.gtfs_schema.specs.steps.Ids.{ids_of, number_with}
 use Rattle.gtfs_stop_times.specs.KeptLists.{HasNoHeadsign}
 use Rattle.gtfs_stop_times.specs.KeptTimes.{with_trip, is_placed}
-use Rattle.gtfs_trip_rules.specs.TripJudged.{Judges}
+use Rattle.gtfs_trip_rules.specs.JudgedTrips.{Judges}
 use Rattle.gtfs_trip_rules.specs.TripNotes.{note_of, said}
 use Rattle.gtfs_stop_times.specs.StopTimeOrder.{AreEarlier}
 use Rattle.gtfs_trip_rules.specs.TripNumbers.{name_at, other_number}

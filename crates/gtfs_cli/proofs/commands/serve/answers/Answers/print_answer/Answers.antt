@@ -1,5 +1,5 @@
 use Rattle.std.proofs.Common.{sym}
-use Rattle.gtfs_rows.specs.Views.{content_of_parts}
+use Rattle.gtfs_rows.specs.RowsInMemory.{content_of_parts}
 use Rattle.gtfs_cli.specs.LentServeQuestions.{question_of}
 use Rattle.gtfs_cli.proofs.Answering.{answered-cut, answered-refused}
 use Rattle.gtfs_cli.proofs.commands.serve.answers.Answers.print_answer.Goals as goal

@@ -1,5 +1,5 @@
 use Rattle.std.proofs.Common.{refl}
-use Rattle.gtfs_rows.specs.Views.{content_of_parts}
+use Rattle.gtfs_rows.specs.RowsInMemory.{content_of_parts}
 use Rattle.gtfs_cli.specs.LentBoardRequests.{stop_request_of}
 use Rattle.gtfs_cli.proofs.Answering.{board-printed, board-refused}
 use Rattle.gtfs_cli.proofs.commands.serve.answers.Answers.print_board.Goals as goal

@@ -1,5 +1,5 @@
 use Rattle.std.proofs.Common.{refl}
-use Rattle.gtfs_rows.specs.Views.{content_of_parts}
+use Rattle.gtfs_rows.specs.RowsInMemory.{content_of_parts}
 use Rattle.gtfs_cli.proofs.Answering.{sheets-asked}
 use Rattle.gtfs_cli.proofs.commands.serve.answers.Answers.print_question.Goals as goal
 

@@ -1,6 +1,6 @@
 use Rattle.std.proofs.Common.{◌<◌, ◌≤◌, codes, length, inl, inr, refl, subst, arith}
-use Rattle.gtfs_conversation.specs.Lines.{longest_line}
-use Rattle.gtfs_rows.specs.Views.{content_of_parts}
+use Rattle.gtfs_conversation.specs.HeardLines.{longest_line}
+use Rattle.gtfs_rows.specs.RowsInMemory.{content_of_parts}
 use Rattle.gtfs_times.specs.declared.times.Times.{Times}
 use Rattle.gtfs_cli.specs.ServeAnswers.{refused_line}
 use Rattle.gtfs_cli.specs.LentServeQuestions.{question_of}

@@ -2,7 +2,7 @@ use Rattle.std.proofs.Common.{◌∙◌, [], ap, inl, refl, subst, sym, List, �
 use Rattle.std.specs.Prelude.{OnOk, OnErr}
 use Rattle.std.specs.Io.KnownBytes.{Appends}
 use Rattle.std.proofs.KnownBytes.{Appends-nil}
-use Rattle.gtfs_rows.specs.Views.{content_of_parts}
+use Rattle.gtfs_rows.specs.RowsInMemory.{content_of_parts}
 use Rattle.gtfs_cli.specs.ServeAnswers.{AnswersLine, IsAnswerPart}
 use Rattle.gtfs_cli.proofs.Answering.{ended-cut, ended-early, ended-whole, no-bytes, on-err, on-ok, some-bytes}
 use Rattle.gtfs_cli.proofs.commands.serve.answers.AnswersAnswer.answer.Goals as goal
